@@ -274,7 +274,7 @@ fn run_command<'a>(alloc: Global) -> Result<Command<'a>, AllocError>
         alloc,
         "checkpoint-over",
         "BYTES",
-        "The same where LOG has more bytes than this: before the first call, between parts of 65536 and behind the last",
+        "The same where LOG has more bytes than this: before the first call, between parts of 65536 calls and behind the last",
     );
     kept_command(alloc)?
         .arg(checkpoint_arg(alloc))?
@@ -366,6 +366,26 @@ fn with_command<'a>(
     }
 }
 
+// What each command's help begins with.
+const EXEC: &str =
+    "Verify code and run it: prints `answer V` and `executed N`, or `refused ..` with status 1";
+
+const ASM: &str = "Assemble text, an instruction a line: prints its slots in hex, one a line";
+
+const DIS: &str = "Disassemble code: prints its text, an instruction a line";
+
+const VERIFY: &str =
+    "Verify the procedures of a script or of an object file: prints `NAME accepted SLOTS` or `NAME V.. slot N` for each";
+
+const WORLD: &str =
+    "Take the steps of a script one by one: prints a line for each, then `row DC/TABLE/KEY VALUE` for what is kept";
+
+const RUN: &str =
+    "Run the calls of a script by workers: prints what each was answered, as `call I committed`, and then the rows";
+
+const LOG: &str =
+    "Print the events of a log's file, one a line, as `7 end 3 committed`; or draw them, or audit it beside a script";
+
 /// The release, which `--version` prints: `MZ_RELEASE` of the library for C.
 const RELEASE: &str = "0.1.0";
 
@@ -374,41 +394,13 @@ pub(crate) fn procd_command<'a>(alloc: Global) -> Result<Command<'a>, AllocError
     ensures { IfOk result (λ c. app_of c ≡ procd_app) }
 {
     let procd = Command::new(alloc, "procd");
-    let with_exec = with_command(
-        procd,
-        exec_command(alloc),
-        "Verify code and run it: prints `answer V` and `executed N`, or `refused ..` with status 1",
-    )?;
-    let with_asm = with_command(
-        with_exec,
-        asm_command(alloc),
-        "Assemble text, an instruction a line: prints its slots in hex, one a line",
-    )?;
-    let with_dis = with_command(
-        with_asm,
-        dis_command(alloc),
-        "Disassemble code: prints its text, an instruction a line",
-    )?;
-    let with_verify = with_command(
-        with_dis,
-        verify_command(alloc),
-        "Verify the procedures of a script or of an object file: prints `NAME accepted SLOTS` or `NAME V.. slot N` for each",
-    )?;
-    let with_world = with_command(
-        with_verify,
-        world_command(alloc),
-        "Take the steps of a script one by one: prints a line for each, then `row DC/TABLE/KEY VALUE` for what is kept",
-    )?;
-    let with_run = with_command(
-        with_world,
-        run_command(alloc),
-        "Run the calls of a script by workers: prints what each was answered, as `call I committed`, and then the rows",
-    )?;
-    let with_log = with_command(
-        with_run,
-        log_command(alloc),
-        "Print the events of a log's file, one a line, as `7 end 3 committed`; or draw them, or audit it beside a script",
-    )?;
+    let with_exec = with_command(procd, exec_command(alloc), EXEC)?;
+    let with_asm = with_command(with_exec, asm_command(alloc), ASM)?;
+    let with_dis = with_command(with_asm, dis_command(alloc), DIS)?;
+    let with_verify = with_command(with_dis, verify_command(alloc), VERIFY)?;
+    let with_world = with_command(with_verify, world_command(alloc), WORLD)?;
+    let with_run = with_command(with_world, run_command(alloc), RUN)?;
+    let with_log = with_command(with_run, log_command(alloc), LOG)?;
     Ok(
         with_log
             .about("A transaction component that runs verified BPF procedures")

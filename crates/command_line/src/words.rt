@@ -34,7 +34,7 @@ pub enum Task<'a> {
     Dis {
         raw: bool,
     },
-    /// Verify the procedures of a script.
+    /// Verify the procedures of a script or of an object file.
     Verify,
     /// Take the steps of a script; behind the rows, with `audit`, print what an audit finds, and with
     /// `log` each event of the log. With `script`, its path, the file is an object file with procedures for it.
@@ -112,11 +112,11 @@ pub enum LogTask<'a> {
 
 impl Task<'_> {
     ghost use Rattle.std.specs.Prelude.{◌≡◌};
-    ghost use Rattle.command_line.specs.Task.{may_tell, wish_of};
+    ghost use Rattle.command_line.specs.Task.{wants_figures, wish_of};
 
     /// Whether figures are to be told on standard error.
-    pub fn may_tell(&self) -> bool
-        ensures { result ≡ may_tell (wish_of self.now) }
+    pub fn wants_figures(&self) -> bool
+        ensures { result ≡ wants_figures (wish_of self.now) }
     {
         match self {
             Task::Run(task) => task.stats,
@@ -143,7 +143,7 @@ pub struct Wanted<'a> {
 #[derive(Drop)]
 pub enum WordFault {
     Clap(Error),
-    /// An ARG or N is no number of 64 bits in decimal.
+    /// An ARG, N, P or BYTES is no number of 64 bits in decimal.
     NotNumber,
     /// `log --audit` without a script.
     AuditAlone,

@@ -82,8 +82,8 @@ impl Waiter<'_> {
     }
 }
 
-// A queue of messages, whose event count is signalled at each. A link's queues are `Free`. What is said here of a
-// queue that was found empty is said under any rule `P`: so it can't be had but by a look at the queue.
+/// A queue of messages, whose event count is signalled at each. A link's queues are `Free`. What is said here of a
+/// queue that was found empty is said under any rule `P`: so it can't be had but by a look at the queue.
 #[derive(Drop)]
 pub struct Ring<T, V, P: Protocol<T, V>> {
     queue: RuledArrayQueue<T, V, P>,
@@ -91,7 +91,7 @@ pub struct Ring<T, V, P: Protocol<T, V>> {
 }
 
 impl<T: Drop, V, P: Protocol<T, V>> Ring<T, V, P> {
-    // A ring of this capacity.
+    /// A ring of this capacity.
     pub fn new(alloc: Global, capacity: usize) -> Result<Ring<T, V, P>, AllocError>
         requires capacity { 0 < capacity }
         requires rule { P.holds [] (P.first ∷ []) }
@@ -103,8 +103,8 @@ impl<T: Drop, V, P: Protocol<T, V>> Ring<T, V, P> {
         })
     }
 
-    // The oldest message. Waits for one until the rings are closed; nothing where they were closed
-    // before none was found.
+    /// The oldest message. Waits for one until the rings are closed; nothing where they were closed
+    /// before none was found.
     pub fn take<M: Outcome<T, V> + Lesson<T, V>, R: Wait>(
         &self,
         rt: &R,
@@ -133,19 +133,19 @@ impl<T: Drop, V, P: Protocol<T, V>> Ring<T, V, P> {
         unreachable!()
     }
 
-    // Whether somebody sleeps until a message comes.
+    /// Whether somebody sleeps until a message comes.
     pub fn has_sleeper(&self) -> bool {
         self.event_count.sleepers.load(Ordering::SeqCst) != 0
     }
 
-    // Has whoever waits look again.
+    /// Has whoever waits look again.
     pub fn wake(&self) {
         self.event_count.signal();
     }
 }
 
 impl<T: Drop> Ring<T, (), Free> {
-    // Puts a message behind the others; it comes back where there is no room.
+    /// Puts a message behind the others; it comes back where there is no room.
     pub fn put<R: Wait>(&self, rt: &R, message: T) -> Result<(), T>
         ensures { IfErr result (λ back. back ≡ message) }
     {

@@ -55,7 +55,7 @@ pub fn perform_all<O: Outstanding>(dc: &mut Dc, number: usize, requests: &mut [O
 /// What a thread knows of a seat. It has no bytes.
 pub type Pass = atomic_table::Seat<Option<Served>, Part>;
 
-// The rule of a seat.
+/// The rule of a seat: one thread at a time has what lies there.
 pub struct OneAtATime;
 
 impl TableRule<Option<Served>, Part, ()> for OneAtATime {
@@ -143,8 +143,8 @@ const FREE: u64 = 0;
 const IN_HANDS: u64 = 1;
 
 /// The place of a component, which is empty while nobody serves it. Whoever finds it free has the component
-/// perform wires there and then. It is a lock that knows whose component lies under it: who put it there
-/// has it back.
+/// perform wires there and then. It is a spin lock whose ghost rule ties what lies under it to the thread that put it
+/// there.
 #[derive(Drop)]
 pub struct Seat {
     table: Table<Option<Served>, Part, (), OneAtATime, Global>,
@@ -162,7 +162,7 @@ impl Seat {
         self.table.shared.peek(0) == FREE
     }
 
-    // Takes it into one's hands, where it is free; that is looked for a moment.
+    // Takes it, if it is free or gets free in a moment.
     fn look(&self) -> Option<Pass>
         ensures own { IfSome result (λ pass. pass.table_id ≡ self.now.table.shared.table_id) }
         ensures held { IfSome result (λ pass. IsHolding pass.me) }
@@ -271,7 +271,7 @@ impl Seat {
         self.perform_held(self.take(rt), wire)?
     }
 
-    /// What the component does with a wire, where it is free; that is looked for a moment.
+    /// What the component does with a wire, if its seat is free or gets free in a moment.
     pub fn try_perform(&self, wire: &Wire) -> Option<Option<Reply>>
         ensures { IfSome result (λ said. IfSome said (λ reply. reply.number ≡ wire.now.number)) }
     {

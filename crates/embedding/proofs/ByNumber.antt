@@ -35,7 +35,8 @@ served_as p f code p' f' what is listed refused why done shown gathers gathers_n
 }
 
 pub kept_as : (s : Store) (f : Frame) (code : ℕ) (s' : Store) (f' : Frame) (what : ℕ) → f.what ≡ what → is_dc_call what ≡ true
-    → (code ≢ 0 → code ≢ SILENT → s' ≡ s) → (code ≢ 0 → UnkeptBy what s f code s') → (code ≡ 0 → KeptBy what s f s' f') → (code ≡ 0 → SeenBy what s f f') → IsKept s f code s' f'
+    → (code ≢ 0 → code ≢ SILENT → s' ≡ s) → (code ≢ 0 → UnkeptBy what s f code s') → (code ≡ 0 → KeptBy what s f s' f')
+    → (code ≡ 0 → SeenBy what s f f') → IsKept s f code s' f'
 kept_as s f code s' f' what is listed refused why done seen = record {
   refused = refused;
   why = λ e. subst (λ (n : ℕ). UnkeptBy n s f code s') (sym is) (why e);

@@ -22,22 +22,31 @@ pub struct Frame {
     pub op: u32,
     /// How many arguments or bytes, or 1 where an open transaction is in doubt or stuck.
     pub count: u32,
+    /// The data component of a record, or that the call is about.
     pub dc: u16,
+    /// The table of a record.
     pub table: u16,
     /// 1 where a wire redoes what was answered before, else 0.
     pub redo: u32,
+    /// A transaction's serial number.
     pub txn: u64,
+    /// A request's number.
     pub number: u64,
     /// A wire's low-water mark, or the mark that a data component kept.
     pub low_water: u64,
+    /// The incarnation of a wire, a reply or a data component.
     pub incarnation: u64,
+    /// The key of a record.
     pub key: u64,
-    /// A number that the call says more of.
+    /// A further number: the call's row in `mazzulpe.h` says which.
     pub word: u64,
     /// A place in the log, in a list or in code.
     pub place: u64,
+    /// Up to eight arguments of a call.
     pub args: [u64; 8],
+    /// A record's value.
     pub value: [u8; 64],
+    /// A piece of code, of a name or of other bytes.
     pub bytes: [u8; 256],
 }
 

@@ -2,6 +2,7 @@
 
 ghost use Rattle.std.specs.Prelude.{◌≡◌, ◌≢◌, ◌<◌, ◌≤◌, ⊤, [], ◌∷◌, length, take, vec_len, vec_capacity, slice_get, Some, None, IfOk, OnOk};
 ghost use Rattle.std.specs.Prelude.{IfErr, OnErr, IfSome, IfNone, replicate};
+ghost use Rattle.history.specs.Flight.{given, low_water};
 ghost use Rattle.transactions.specs.InFlight.{untold};
 ghost use Rattle.transactions.specs.Room.{each_one, total};
 ghost use Rattle.transactions.specs.Standing.{standing};
@@ -504,6 +505,31 @@ impl TcPart {
         DONE
     }
 
+    fn open_count(&self, frame: &mut Frame) -> u32
+        ensures code { result ≡ 0 }
+        ensures done { frame.new.word ≡ total each_one self.now.state.events }
+    {
+        frame.word = self.state.open_count() as u64;
+        DONE
+    }
+
+    fn log_length(&self, frame: &mut Frame) -> u32
+        ensures code { result ≡ 0 }
+        ensures done { frame.new.word ≡ length self.now.state.events }
+    {
+        frame.word = self.state.log().len() as u64;
+        DONE
+    }
+
+    fn low_water(&self, frame: &mut Frame) -> u32
+        ensures code { result ≡ 0 }
+        ensures done { (frame.new.low_water ≡ low_water self.now.state.events) × (frame.new.number ≡ given self.now.state.events) }
+    {
+        frame.low_water = self.state.low_water();
+        frame.number = self.state.last_number();
+        DONE
+    }
+
     fn log_bytes(&self, frame: &mut Frame) -> u32
         ensures why { result ≢ 0 → WhyNoEvent self.now frame.old result }
         ensures done { result ≡ 0 → ShowsEvent self.now frame.old frame.new }
@@ -616,25 +642,15 @@ impl TcPart {
             call::ANSWER => self.answer(frame),
             call::GIVE_UP => self.give_up(frame),
             call::END => self.end(frame),
-            call::OPEN_COUNT => {
-                frame.word = self.state.open_count() as u64;
-                DONE
-            }
-            call::LOG_LENGTH => {
-                frame.word = self.state.log().len() as u64;
-                DONE
-            }
+            call::OPEN_COUNT => self.open_count(frame),
+            call::LOG_LENGTH => self.log_length(frame),
             call::LOG_BYTES => self.log_bytes(frame),
             call::SITE => self.site(frame),
             call::TOLD => self.told(frame),
             call::REDO_NEXT => self.redo_next(frame),
             call::REDONE => self.redone(frame),
             call::LOG_ANEW => self.begin_anew(frame),
-            call::LOW_WATER => {
-                frame.low_water = self.state.low_water();
-                frame.number = self.state.last_number();
-                DONE
-            }
+            call::LOW_WATER => self.low_water(frame),
             call::OPEN_FROM => self.open_from(frame),
             call::RETAKE => self.retake(frame),
             call::LOCK_AT => self.lock_at(frame),

@@ -34,23 +34,12 @@ fn refusal_line(alloc: Global, fault: OpenFault) -> Result<String, AllocError>
     }
 }
 
-// The report of a refusal with this line.
-fn refusal(lines: String) -> Output
-    ensures { (result.status ≡ 1) × (result.lines ≡ lines) }
-{
-    Output {
-        status: 1,
-        lines,
-        notes: None,
-    }
-}
-
 /// The report of a file that isn't read.
 pub(crate) fn refused(alloc: Global, fault: OpenFault) -> Result<Output, AllocError>
     ensures line { IfOk result (λ r. refusal_line fault ≡ Some (string_bytes r.lines)) }
     ensures status { IfOk result (λ r. r.status ≡ 1) }
 {
-    Ok(refusal(refusal_line(alloc, fault)?))
+    Ok(Output::refusal(refusal_line(alloc, fault)?))
 }
 
 /// The report of a log that has another header than the script's.
@@ -58,7 +47,7 @@ pub(crate) fn anothers(alloc: Global, log: &Header, script: &Header) -> Result<O
     ensures line { IfOk result (λ r. string_bytes r.lines ≡ other_line log.now script.now) }
     ensures status { IfOk result (λ r. r.status ≡ 1) }
 {
-    Ok(refusal(other_line(alloc, log, script)?))
+    Ok(Output::refusal(other_line(alloc, log, script)?))
 }
 
 /// The line that says why data components aren't brought to where the log left them; want of memory has
@@ -88,7 +77,7 @@ pub(crate) fn unbegun(alloc: Global, fault: BaseFault) -> Result<Output, AllocEr
     ensures line { IfOk result (λ r. string_bytes r.lines ≡ base_fault_line fault) }
     ensures status { IfOk result (λ r. r.status ≡ 1) }
 {
-    Ok(refusal(base_fault_line(alloc, fault)?))
+    Ok(Output::refusal(base_fault_line(alloc, fault)?))
 }
 
 /// Adds how many bytes at the end are no whole frame, where there are such.

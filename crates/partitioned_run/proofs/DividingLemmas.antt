@@ -1,5 +1,6 @@
 -- Procedures and calls of partitions.
-use Rattle.std.proofs.Common.{arith, inl, inr, ◌≡◌, ◌∙◌, ◌<◌, ◌≤◌, ◌+◌, ◌==◌, ℕ, zero, suc, Bool, true, false, not, max, List, [], ◌∷◌, ◌++◌, length, map, take, get_or, refl, sym, ap, ap₂, subst}
+use Rattle.std.proofs.Common.{arith, inl, inr, ◌≡◌, ◌∙◌, ◌<◌, ◌≤◌, ◌+◌, ◌==◌, ℕ, zero, suc, Bool, true, false, not}
+use Rattle.std.proofs.Common.{max, List, [], ◌∷◌, ◌++◌, length, map, take, get_or, refl, sym, ap, ap₂, subst}
 use Rattle.std.specs.Prelude.{◌||◌, is_some, cond, nat_lt, Option, Some, None, slice_get, unwrap_or, All, Result, Ok, Err, IfOk, IsOkAnd}
 use Rattle.std.specs.List.{list_any, position_from}
 use Rattle.std.proofs.lemmas.List.{map_more, map-append, length-take-le, take_more}

@@ -1,5 +1,6 @@
 -- What the calls of partitions go on from.
-use Rattle.std.proofs.Common.{arith, inl, inr, ◌≡◌, ◌∙◌, ◌<◌, ◌+◌, ◌==◌, ℕ, suc, Bool, true, false, List, [], ◌∷◌, ◌++◌, length, get_or, refl, sym, ap, ap₂, subst}
+use Rattle.std.proofs.Common.{arith, inl, inr, ◌≡◌, ◌∙◌, ◌<◌, ◌+◌, ◌==◌, ℕ, suc, Bool, true, false, List, [], ◌∷◌}
+use Rattle.std.proofs.Common.{◌++◌, length, get_or, refl, sym, ap, ap₂, subst}
 use Rattle.std.specs.Prelude.{◌&&◌, Option, Some, None, is_some, slice_get, string_bytes, All}
 use Rattle.std.specs.declared.alloc.Global.{Global}
 use Rattle.std.specs.declared.string.String.{String}
@@ -12,7 +13,7 @@ use Rattle.tc_core.specs.Core.{Core}
 use Rattle.run_command.specs.Kept.{FileJournal, KeepsLog}
 use Rattle.run_command.specs.declared.anew.Ground.{Ground}
 use Rattle.run_command.specs.declared.logged.OpenLog.{OpenLog}
-use Rattle.run_command.specs.declared.logged.Recovered.{Recovered}
+use Rattle.run_command.specs.declared.logged.RecoveredRun.{RecoveredRun}
 use Rattle.run_command.specs.Recovering.{IsBackFrom, IsOpened}
 use Rattle.log_file.specs.Found.{base_in}
 use Rattle.partitioned_run.specs.Belonging.{IsLogOfPartition}
@@ -92,7 +93,7 @@ no_fronts start empties numbers starts are = fronts_none starts (λ p s is. (no_
 -- ---- one partition that has a file
 
 -- a log that was opened, and is the partition's, was gone on from
-pub back_at : (start : Core) (empties : List Store) (numbers : List ℕ) (p : ℕ) (o : OpenLog) (g : Ground) (b : Recovered) → IsOpened start o
+pub back_at : (start : Core) (empties : List Store) (numbers : List ℕ) (p : ℕ) (o : OpenLog) (g : Ground) (b : RecoveredRun) → IsOpened start o
     → g.journal ≡ Some b.journal → IsBackFrom start empties (base_in o.base) o.log.events g.state g.dcs.items b
     → IsLogOfPartition numbers start.procs p (base_in o.base) o.log.events → IsBackAt start empties numbers p g b.lines
 back_at start empties numbers p o g b opened journal_is from own = record {

@@ -37,7 +37,7 @@ use Rattle.run_command.specs.declared.stop.Stop.{Stop}
 use Rattle.worker_pool.specs.Faults.{InRange}
 use Rattle.partitioned_run.specs.declared.answering.PartitionOutcome.{PartitionOutcome}
 use Rattle.partitioned_run.specs.declared.dividing.Division.{Division}
-use Rattle.partitioned_run.specs.declared.reporting.All.{All as Together}
+use Rattle.partitioned_run.specs.declared.reporting.Outcomes.{Outcomes}
 use Rattle.partitioned_run.specs.Partitioned.{decl_of, partition_of_call, IsAnsweredBy, AddsAuditOf, AddsAudits, kept_dc, kept_dcs, kept_from}
 use Rattle.partitioned_run.specs.Partitioned.{AreRunApart, Ran as Begun, Stopped}
 use Rattle.partitioned_run.specs.Logged.{front_lines, AreRunFrom, Behind, IsContentsRun, IsPartitionedBy, IsPartitionedRun, IsRunFrom, Refused}
@@ -75,7 +75,7 @@ from_long start dcs (Some g) first calls first_answers other_answers (Some b) h 
 
 -- ---- the calls of all partitions
 
-pub one_run_more : (before : List (Result PartitionOutcome Stop)) (ran : PartitionOutcome) (old new : Together) → new.grounds.items ≡ old.grounds.items ++ ran.ground ∷ []
+pub one_run_more : (before : List (Result PartitionOutcome Stop)) (ran : PartitionOutcome) (old new : Outcomes) → new.grounds.items ≡ old.grounds.items ++ ran.ground ∷ []
     → new.first.items ≡ old.first.items ++ ran.answers.first ∷ [] → new.calls.items ≡ old.calls.items ++ ran.answers.calls ∷ []
     → AreAllOf before old → AreAllOf (before ++ Ok ran ∷ []) new
 one_run_more before ran old new grounds firsts others all = record {
@@ -110,7 +110,7 @@ run_at c d starts ran runs p s (Some r) behind first_answers other_answers is s_
     let others : other_answers ≡ r.answers.calls = cc in
     rw (grounds, firsts, others) at
 
-pub all_run : (c : Contents) (d : Division) (starts : List Start) (ran : List (Result PartitionOutcome Stop)) (all : Together)
+pub all_run : (c : Contents) (d : Division) (starts : List Start) (ran : List (Result PartitionOutcome Stop)) (all : Outcomes)
     → length starts ≡ max (length (empty_stores c)) 1 → ((p : ℕ) (s : Start) → slice_get starts p ≡ Some s → s.number ≡ p)
     → AreRun c d starts ran → AreAllOf ran all → AreAllRun c d starts all
 all_run c d starts ran all is named are of =
@@ -140,7 +140,7 @@ partitions_are : (c : Contents) (d : Division) → AreDivided c d → ArePartiti
 partitions_are c d numbered =
     subst (λ (n : ℕ). ArePartitions n (map decl_of (begun c).procs) d.partitions) (sym (length-map c.dcs empty_store)) numbered.partitions
 
-module _ (c : Contents) (d : Division) (starts : List Start) (all : Together) (numbered : AreDivided c d) (run : AreAllRun c d starts all) where
+module _ (c : Contents) (d : Division) (starts : List Start) (all : Outcomes) (numbered : AreDivided c d) (run : AreAllRun c d starts all) where
   dcs_long : length (empty_stores c) ≡ length c.dcs
   dcs_long = length-map c.dcs empty_store
 
@@ -249,7 +249,7 @@ plain_from start dcs ground first calls first_answers other_answers behind none 
     subst (λ (g : Option Ground). IsRunFrom start dcs g first calls first_answers other_answers behind) none from
 
 -- with files or without any
-pub run_so : (keeps : Bool) (c : Contents) (d : Division) (front : List ℕ) (all : Together) (first_answers other_answers : List Answer) (audit : Bool)
+pub run_so : (keeps : Bool) (c : Contents) (d : Division) (front : List ℕ) (all : Outcomes) (first_answers other_answers : List Answer) (audit : Bool)
     (answered kept lines : List ℕ) (sound : Bool) (status : ℕ) (empty : List Store) → AreDivided c d → HaveRun keeps c d front all
     → IsMerged d.first.items all.first.items first_answers → IsMerged d.calls.items all.calls.items other_answers
     → (list_any is_want_of_memory first_answers ≡ false) × (list_any is_want_of_memory other_answers ≡ false)

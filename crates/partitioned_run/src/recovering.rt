@@ -14,7 +14,7 @@ use crate::fault::Fault;
 use crate::grounds::{Start, Task, own_ground};
 use partitions::Partitions;
 use report_texts::output::Output;
-use run_command::logged::{OpenLog, Recovered, Recovery, go_back, open_log};
+use run_command::logged::{OpenLog, RecoveredRun, Recovery, go_back, open_log};
 use run_command::running::Ground;
 use std::alloc::{AllocError, Global};
 use std::fs::File;
@@ -68,7 +68,7 @@ fn go_on(
     let mut ground = ground;
     let dcs = ground.dcs.as_mut_slice();
     match go_back(alloc, &mut ground.state, dcs, opened, path) {
-        Ok(Recovery::Ready(Recovered { journal, lines })) => {
+        Ok(Recovery::Ready(RecoveredRun { journal, lines })) => {
             ground.journal = Some(journal);
             Ok(Recovery::Ready(Start {
                 number,

@@ -25,18 +25,18 @@ use worker_pool::Answer;
 /// What the calls of each partition came to, in the order of their numbers: what they were run on, behind the last, if
 /// there are any, and what those of both lists were answered.
 #[derive(Drop)]
-pub struct All {
+pub struct Outcomes {
     pub grounds: Vec<Option<Ground>>,
     pub first: Vec<Vec<Answer>>,
     pub calls: Vec<Vec<Answer>>,
 }
 
-impl All {
+impl Outcomes {
     // Of so many partitions none yet.
-    fn with_capacity(alloc: Global, count: usize) -> Result<All, AllocError>
+    fn with_capacity(alloc: Global, count: usize) -> Result<Outcomes, AllocError>
         ensures { IfOk result (λ all. (all.grounds.items ≡ []) × (all.first.items ≡ []) × (all.calls.items ≡ [])) }
     {
-        Ok(All {
+        Ok(Outcomes {
             grounds: Vec::with_capacity(alloc, count)?,
             first: Vec::with_capacity(alloc, count)?,
             calls: Vec::with_capacity(alloc, count)?,
@@ -59,7 +59,7 @@ impl All {
 
 // Adds what the calls of the next one came to, unless something stopped them.
 #[tactic(auto, using(crate::proofs::ReportingLemmas::one_run_more))]
-fn add_next(all: &mut All, next: Result<PartitionOutcome, Stop>) -> Result<(), Fault>
+fn add_next(all: &mut Outcomes, next: Result<PartitionOutcome, Stop>) -> Result<(), Fault>
     ensures { OnOk result ((before : List (Result OutcomeValue StopValue)) → AreAllOf before all.old → AreAllOf (before ++ next ∷ []) all.new) }
 {
     match next {
@@ -72,10 +72,13 @@ fn add_next(all: &mut All, next: Result<PartitionOutcome, Stop>) -> Result<(), F
 }
 
 /// What the calls of all partitions came to, unless something stopped those of one.
-pub fn all_of(alloc: Global, ran: Vec<Result<PartitionOutcome, Stop>>) -> Result<All, Fault>
+pub fn outcomes_of(
+    alloc: Global,
+    ran: Vec<Result<PartitionOutcome, Stop>>,
+) -> Result<Outcomes, Fault>
     ensures { IfOk result (AreAllOf ran.items) }
 {
-    let mut all = All::with_capacity(alloc, ran.len())?;
+    let mut all = Outcomes::with_capacity(alloc, ran.len())?;
     'runs: for next in ran {
         if let Err(fault) = add_next(&mut all, next) {
             drop(all);

@@ -18,7 +18,8 @@ use crate::grounds::{Start, Task};
 pub use crate::recovering::file_of;
 use crate::recovering::{front_lines, starts_of};
 use crate::reporting::{
-    All, all_of, answered_lines, check_names, lack_memory, status_of, write_audits, write_kept,
+    Outcomes, answered_lines, check_names, lack_memory, outcomes_of, status_of, write_audits,
+    write_kept,
 };
 use data_component::dc::Dc;
 use partitions::merged;
@@ -33,15 +34,16 @@ use std::rt::Files;
 use std::sync::Wait;
 use std::thread::Threads;
 use std::time::Clock;
+use worker_pool::{MOST_TRIES, MOST_WORKERS};
 
 // Why no call is begun, if that is so by the numbers of workers and of tries. The tries are looked at first.
 fn unfit(manner: Manner) -> Option<Stop>
     ensures unfit { IfSome result (Stops false manner.workers manner.tries) }
     ensures fit { result ≡ None → InRange manner.workers manner.tries }
 {
-    if !(1..=1000).contains(&manner.tries) {
+    if !(1..=MOST_TRIES).contains(&manner.tries) {
         Some(Stop::Tries)
-    } else if !(1..=64).contains(&manner.workers) {
+    } else if !(1..=MOST_WORKERS as u64).contains(&manner.workers) {
         Some(Stop::Workers)
     } else {
         None
@@ -54,7 +56,7 @@ fn reported(
     task: Task,
     front: String,
     empty: &[Dc],
-    all: &All,
+    all: &Outcomes,
 ) -> Result<Output, AllocError>
     requires divided { AreDivided (contents_of task.script.now) task.division.now }
     requires empty { empty.now ≡ empty_stores (contents_of task.script.now) }
@@ -80,12 +82,12 @@ fn reported(
 }
 
 // The same, where each file that keeps a log still has its name.
-fn told<F: Files<File = File>>(
+fn reported_if_named<F: Files<File = File>>(
     rt: &F,
     alloc: Global,
     task: Task,
     front: String,
-    all: &All,
+    all: &Outcomes,
 ) -> Result<Output, Fault>
     requires divided { AreDivided (contents_of task.script.now) task.division.now }
     requires run { HaveRun (is_some task.log) (contents_of task.script.now) task.division.now (string_bytes front) all.now }
@@ -122,9 +124,9 @@ fn run_started<R: Files<File = File> + Clock + Threads + Wait + Sync>(
         }
     };
     let ran = answer_partitions(rt, alloc, task, starts)?;
-    match all_of(alloc, ran) {
+    match outcomes_of(alloc, ran) {
         Ok(all) => {
-            let report = told(rt, alloc, task, front, &all);
+            let report = reported_if_named(rt, alloc, task, front, &all);
             drop(all);
             report
         }

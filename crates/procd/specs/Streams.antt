@@ -8,7 +8,7 @@ use Rattle.log_command.specs.declared.following.Seam.{Seam}
 use Rattle.log_command.specs.LogReport.{IsUnread}
 use Rattle.log_command.specs.Following.{AreLines, seam_line}
 use Rattle.procd.specs.Report.{IsReport}
-use Rattle.command_line.specs.Task.{Wish, World, Run, Partitioned, Log, Follow, Audit, Picture, may_tell}
+use Rattle.command_line.specs.Task.{Wish, World, Run, Partitioned, Log, Follow, Audit, Picture, wants_figures}
 
 -- what a stream held before and holds afterwards, where that is known
 pub record Stream : Type 0 where
@@ -108,7 +108,7 @@ TellsIf false err = IsKept err
 
 -- the report's lines are written, and the status is its own
 abbrev pub IsDone : Wish → List ℕ → Stream → Stream → ℕ → Type 0
-IsDone wish text out err status = (lines : List ℕ) × IsReport wish text status lines × Gets out lines × TellsIf (may_tell wish) err
+IsDone wish text out err status = (lines : List ℕ) × IsReport wish text status lines × Gets out lines × TellsIf (wants_figures wish) err
 
 -- the file can't be read, memory ran out, a further file can't be read or written, standard output can't be written, or what was read is done
 abbrev pub Ends : List ℕ → Wish → List ℕ → Stream → Stream → ℕ → Type 0

@@ -156,10 +156,10 @@ fn cannot_keep<E: Write>(alloc: Global, err: &mut E, log: &str, number: usize, s
 }
 
 // Tells the figures, where they are asked for and there are some.
-fn tell_notes<E: Write>(err: &mut E, may_tell: bool, report: &Output)
-    ensures { TellsIf may_tell (stream (E.contents err.old) (E.contents err.new)) }
+fn tell_notes<E: Write>(err: &mut E, wants_figures: bool, report: &Output)
+    ensures { TellsIf wants_figures (stream (E.contents err.old) (E.contents err.new)) }
 {
-    if let (true, Some(notes)) = (may_tell, &report.notes) {
+    if let (true, Some(notes)) = (wants_figures, &report.notes) {
         let _ = tell(err, notes.as_str());
     }
 }
@@ -203,7 +203,7 @@ fn tell_report<F: Files<File = File>, W: Write, E: Write>(
     if let Some(terminal) = streams.progress.terminal {
         explain(rt, alloc, terminal, wanted, text, report.status);
     }
-    tell_notes(&mut streams.err, wanted.task.may_tell(), &report);
+    tell_notes(&mut streams.err, wanted.task.wants_figures(), &report);
     let status = report.status;
     drop(report);
     status
@@ -383,12 +383,12 @@ fn wrong_words<E: Write>(err: &mut E, text: &str) -> u8
 }
 
 // Why words are wrong.
-const NO_NUMBER: &str = "error: an ARG, N or P is no number of 64 bits in decimal";
+const NO_NUMBER: &str = "error: an ARG, N, P or BYTES is no number of 64 bits in decimal";
 
 const AUDIT_ALONE: &str =
-    "error: log --audit takes a SCRIPT as well: the one whose procedures the log was written for";
+    "error: log --audit takes a SOURCE as well: the script, or object file, whose procedures the log was written for";
 
-const SCRIPT_ALONE: &str = "error: log takes a SCRIPT with --audit alone";
+const SCRIPT_ALONE: &str = "error: log takes a SOURCE with --audit alone";
 
 const TWO_PURPOSES: &str = "error: log takes one of --rows, --audit, --picture and --follow";
 

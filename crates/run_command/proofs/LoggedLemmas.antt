@@ -15,7 +15,7 @@ use Rattle.coming_back.specs.Faults.{IsFaultOf}
 use Rattle.std.specs.declared.alloc.Global.{Global}
 use Rattle.std.specs.declared.string.String.{String}
 use Rattle.run_command.specs.declared.logged.OpenLog.{OpenLog}
-use Rattle.run_command.specs.declared.logged.Recovered.{Recovered}
+use Rattle.run_command.specs.declared.logged.RecoveredRun.{RecoveredRun}
 use Rattle.run_command.specs.declared.logged.Recovery.{Recovery}
 use Rattle.run_command.specs.declared.logged.Recovery.TheVariants.{Ready, Refused}
 use Rattle.log_file.specs.declared.header.Header.{Header}
@@ -56,7 +56,7 @@ pub overfull_comes : (start : Core) (empties : List Store) (file : List ℕ) (ba
 overfull_comes start empties file base log begun back dcs resumed journal report d is_log begins came over line status =
     (Overfull file base log begun back dcs resumed is_log begins came d over line, status)
 
-pub begun_by : (start : Core) (empties : List Store) (back : Core) (dcs : List Store) (opened : OpenLog) (x : Recovery Recovered) → IsOpened start opened
+pub begun_by : (start : Core) (empties : List Store) (back : Core) (dcs : List Store) (opened : OpenLog) (x : Recovery RecoveredRun) → IsOpened start opened
     → IsGoingBack start empties (base_in opened.base) opened.log.events back dcs x → IsBegun start empties back dcs x
 begun_by start empties back dcs opened (Ready b) o h =
     record { file = o.file; base = base_in opened.base; log = opened.log.events; is_log = o.is_log; from = h }

@@ -8,7 +8,7 @@ use Rattle.log_file.specs.Found.{base_in}
 use Rattle.tc_core.specs.Core.{Core}
 use Rattle.coming_back.specs.declared.resumed.Resumed.{Resumed}
 use Rattle.run_command.specs.declared.logged.OpenLog.{OpenLog}
-use Rattle.run_command.specs.declared.logged.Recovered.{Recovered}
+use Rattle.run_command.specs.declared.logged.RecoveredRun.{RecoveredRun}
 use Rattle.run_command.specs.declared.logged.Recovery.{Recovery}
 use Rattle.run_command.specs.declared.logged.Recovery.TheVariants.{Ready, Refused}
 use Rattle.run_command.specs.LogLines.{back_lines}
@@ -27,7 +27,7 @@ IsOpening start empties (Ready o) = IsOpened start o
 IsOpening start empties (Refused report) = IsLogRefusal start empties (string_bytes report.lines) × (report.status ≡ 1)
 
 -- what came back from the log, with its lines, and the journal that keeps its log
-pub record IsBack (start : Core) (empties : List Store) (log : List Event) (back : Core) (dcs : List Store) (b : Recovered) : Type 0 where
+pub record IsBack (start : Core) (empties : List Store) (log : List Event) (back : Core) (dcs : List Store) (b : RecoveredRun) : Type 0 where
   pub resumed : List Resumed
   pub came_back : HasComeBack start empties log back dcs resumed
   pub goes_on : GoesOn start empties log back dcs
@@ -37,14 +37,14 @@ pub record IsBack (start : Core) (empties : List Store) (log : List Event) (back
   pub lines : string_bytes b.lines ≡ back_lines (length log) dropped path resumed
 
 -- data components began with the records before the log, and what came back from it then, with its lines, and the journal that keeps its log
-pub record IsBackFrom (start : Core) (empties : List Store) (base : Option Rows) (log : List Event) (back : Core) (dcs : List Store) (b : Recovered)
+pub record IsBackFrom (start : Core) (empties : List Store) (base : Option Rows) (log : List Event) (back : Core) (dcs : List Store) (b : RecoveredRun)
     : Type 0 where
   pub begun : List Store
   pub begins : HaveBegun base (reverse log) empties begun
   pub is_back : IsBack start begun log back dcs b
 
 -- a log was opened and gone on from
-pub record IsBackTo (start : Core) (empties : List Store) (back : Core) (dcs : List Store) (b : Recovered) : Type 0 where
+pub record IsBackTo (start : Core) (empties : List Store) (back : Core) (dcs : List Store) (b : RecoveredRun) : Type 0 where
   pub file : List ℕ
   pub base : Option Rows
   pub log : List Event
@@ -52,12 +52,12 @@ pub record IsBackTo (start : Core) (empties : List Store) (back : Core) (dcs : L
   pub from : IsBackFrom start empties base log back dcs b
 
 -- what comes back from a log that was opened, or why it isn't gone on from
-abbrev pub IsGoingBack : Core → List Store → Option Rows → List Event → Core → List Store → Recovery Recovered → Type 0
+abbrev pub IsGoingBack : Core → List Store → Option Rows → List Event → Core → List Store → Recovery RecoveredRun → Type 0
 IsGoingBack start empties base log back dcs (Ready b) = IsBackFrom start empties base log back dcs b
 IsGoingBack start empties base log back dcs (Refused report) =
     IsLogRefusal start empties (string_bytes report.lines) × (report.status ≡ 1)
 
 -- what comes back from a file, or why it is refused
-abbrev pub IsBegun : Core → List Store → Core → List Store → Recovery Recovered → Type 0
+abbrev pub IsBegun : Core → List Store → Core → List Store → Recovery RecoveredRun → Type 0
 IsBegun start empties back dcs (Ready b) = IsBackTo start empties back dcs b
 IsBegun start empties back dcs (Refused report) = IsLogRefusal start empties (string_bytes report.lines) × (report.status ≡ 1)

@@ -44,7 +44,7 @@ impl Checkpoints {
         over: None,
     };
 
-    /// With more bytes than how many it does behind the last call.
+    /// The size of the log's file, in bytes, above which it does so behind the last call.
     pub fn over_at_end(&self) -> Option<u64>
         ensures over { result ≡ over_at_end self.now }
         ensures none { self.now.over ≡ None → self.now.at_end ≡ false → result ≡ None }

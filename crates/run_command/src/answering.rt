@@ -25,7 +25,7 @@ use std::thread;
 use std::thread::{PromisedHandle, Scope, Threads};
 use std::time::{Clock, Duration, Instant};
 use tc_core::state::{Call, TcState};
-use worker_pool::{Answer, OpenGate, Report, RunFault, run};
+use worker_pool::{Answer, MOST_TRIES, MOST_WORKERS, OpenGate, Report, RunFault, run};
 
 /// How the calls of a script are run: the second list by so many workers, each request sent so often
 /// at most; with the figures of that list as notes, with an audit behind the rows, and with what slots of
@@ -228,7 +228,7 @@ fn answer_all<R: Clock + Threads + Wait + Sync>(
 fn unserved(tries: u64) -> Stop
     ensures { (keeps : Bool) (workers : ℕ) → Stops keeps workers tries result }
 {
-    if (1..=1000).contains(&tries) {
+    if (1..=MOST_TRIES).contains(&tries) {
         Stop::NoThread
     } else {
         Stop::Tries
@@ -250,7 +250,7 @@ impl Rings {
     /// Rings for so many components and so many workers. For a number of workers that no run has,
     /// they are those of one worker, whom the first list needs.
     pub fn new(alloc: Global, dcs: usize, workers: u64) -> Result<Rings, AllocError> {
-        let workers = if (1..=64).contains(&workers) {
+        let workers = if (1..=MOST_WORKERS as u64).contains(&workers) {
             workers as usize
         } else {
             1

@@ -4,7 +4,7 @@
 //! ```
 //! let manner = Manner { workers: 4, tries: 3, stats: false, audit: true, results: false };
 //! let text = "dc 8 64\nproc put 2\n..end\nproc get 1\n..end\nfirst put 5 100\ncall get 5\n";
-//! let listeners = Listeners { terminal: None, each: None };
+//! let listeners = Listeners { terminal: None, each: None, metrics: None, trace: None, system: rt };
 //! let report = running(rt, alloc, Source { object: None, text }, manner, listeners)?;
 //! // `first 0 committed`, `call 0 committed`, `row 0/0/5 100`, `audit ok ended 2 open 0`; status 0
 //! ```

@@ -68,20 +68,9 @@ pub struct OpenLog {
 
 /// What a run goes on from: what keeps its log, and the lines of what came back.
 #[derive(Drop)]
-pub struct Recovered {
+pub struct RecoveredRun {
     pub journal: FileJournal,
     pub lines: String,
-}
-
-// The report of a run that is refused.
-fn refusal(lines: String) -> Output
-    ensures { (result.status ≡ 1) × (result.lines ≡ lines) }
-{
-    Output {
-        status: 1,
-        lines,
-        notes: None,
-    }
 }
 
 // Why a log's file of these bytes isn't read; none where something is to be cut off, and there is no place for it.
@@ -96,12 +85,12 @@ fn unread(
         IsOpenRefusal header.now bytes.now fault.now (string_bytes report.lines) × (report.status ≡ 1))) }
 {
     if let Some(line) = open_refusal(alloc, fault)? {
-        return Ok(Some(refusal(line)));
+        return Ok(Some(Output::refusal(line)));
     }
     match fault {
         OpenFault::Other => {
             let line = other_refusal(alloc, header, bytes)?;
-            Ok(Some(refusal(line)))
+            Ok(Some(Output::refusal(line)))
         }
         OpenFault::Frames(FrameFault::Device(DeviceError::Unkept)) => Ok(None),
         OpenFault::Frames(FrameFault::Device(DeviceError::Memory)) => Err(Stop::Memory),
@@ -164,8 +153,8 @@ fn unopened(alloc: Global, error: OpenError) -> Result<Output, Stop>
         OpenError::Unread(fault) => Err(Stop::Unread(fault)),
         OpenError::Unwritten(error) => Err(Stop::NotKept(Some(FileFault::Io(error)))),
         OpenError::Memory => Err(Stop::Memory),
-        OpenError::Busy => Ok(refusal(String::from_str(alloc, "refused log Busy\n")?)),
-        OpenError::Kind(kind) => Ok(refusal(kind_refusal(alloc, kind)?)),
+        OpenError::Busy => Ok(Output::refusal(String::from_str(alloc, "refused log Busy\n")?)),
+        OpenError::Kind(kind) => Ok(Output::refusal(kind_refusal(alloc, kind)?)),
     }
 }
 
@@ -297,14 +286,14 @@ fn come(
         → IfOk result (IsComing state.old dcs.old (base_in base.now) log.now.events state.new dcs.new journal.new) }
 {
     if let Some(fault) = begin_with(dcs, base, log)? {
-        return Ok(Recovery::Refused(refusal(base_fault_line(alloc, fault)?)));
+        return Ok(Recovery::Refused(Output::refusal(base_fault_line(alloc, fault)?)));
     }
     let resumed = match come_back(alloc, state, dcs, log) {
         Ok(resumed) => resumed,
         Err(fault) => return unfit(alloc, &fault),
     };
     if let Some(dc) = overfull(dcs, resumed.as_slice()) {
-        return Ok(Recovery::Refused(refusal(overfull_refusal(alloc, dc)?)));
+        return Ok(Recovery::Refused(Output::refusal(overfull_refusal(alloc, dc)?)));
     }
     keep_behind(journal, state.log(), log.len())?;
     Ok(Recovery::Ready(back_lines(alloc, log.len(), dropped, path, resumed.as_slice())?))
@@ -315,7 +304,7 @@ fn unfit(alloc: Global, fault: &ComeBackFault) -> Result<Recovery<String>, Stop>
     ensures { IfOk result (IsUnfit fault.now) }
 {
     match back_refusal(alloc, fault)? {
-        Some(line) => Ok(Recovery::Refused(refusal(line))),
+        Some(line) => Ok(Recovery::Refused(Output::refusal(line))),
         None => Err(Stop::Memory),
     }
 }
@@ -328,7 +317,7 @@ pub fn go_back(
     dcs: &mut [Dc],
     opened: OpenLog,
     path: &str,
-) -> Result<Recovery<Recovered>, Stop>
+) -> Result<Recovery<RecoveredRun>, Stop>
     requires { All HasOnlyRows dcs.old }
     ensures { IsOpened state.old opened → IfOk result (IsGoingBack state.old dcs.old (base_in opened.base) opened.log.events state.new dcs.new) }
 {
@@ -342,7 +331,7 @@ pub fn go_back(
     drop(base);
     drop(log);
     match coming {
-        Ok(Recovery::Ready(lines)) => Ok(Recovery::Ready(Recovered { journal, lines })),
+        Ok(Recovery::Ready(lines)) => Ok(Recovery::Ready(RecoveredRun { journal, lines })),
         Ok(Recovery::Refused(report)) => {
             drop(journal);
             Ok(Recovery::Refused(report))
@@ -354,14 +343,14 @@ pub fn go_back(
     }
 }
 
-// Does both.
+// Opens the log's file and goes on from its log.
 fn begin<F: Files<File = File>>(
     rt: &F,
     alloc: Global,
     path: &str,
     state: &mut TcState,
     dcs: &mut [Dc],
-) -> Result<Recovery<Recovered>, Stop>
+) -> Result<Recovery<RecoveredRun>, Stop>
     requires { All HasOnlyRows dcs.old }
     ensures { IfOk result (IsBegun state.old dcs.old state.new dcs.new) }
 {
@@ -443,7 +432,7 @@ fn run_on<R: Files<File = File> + Clock + Threads + Wait + Sync>(
     alloc: Global,
     path: &str,
     loaded: Loaded,
-    back: Recovered,
+    back: RecoveredRun,
     options: RunOptions,
 ) -> Result<RunReport, Stop>
     ensures { KeepsLog (Some back.journal) loaded.state.events → IfOk result (λ r.
@@ -451,7 +440,7 @@ fn run_on<R: Files<File = File> + Clock + Threads + Wait + Sync>(
         options.entry.manner.workers options.entry.manner.tries options.entry.manner.audit options.entry.manner.results
         r.report.status (string_bytes back.lines) (string_bytes r.report.lines)) }
 {
-    let Recovered { journal, mut lines } = back;
+    let RecoveredRun { journal, mut lines } = back;
     let Loaded {
         state,
         dcs,

@@ -81,7 +81,7 @@ impl Gate for OpenGate {
     }
 }
 
-// A worker's number, what it calls without the lock, and how many calls it has on their way at most.
+// A worker's number, its link and gate, and how many calls it has on their way at most.
 #[derive(Drop)]
 struct Worker<'a, L, G> {
     number: usize,
@@ -220,7 +220,7 @@ fn run_and_keep<J: RunSpec, K: Journal, R: Wait, L: Link, G: Gate>(
 
 // The lock, what tells of transactions that leave the way, and the run's journal, which is under a lock of
 // its own. Nobody waits for the journal who holds the pool's state.
-struct Pool<J: RunSpec, K: Journal> {
+pub(crate) struct Pool<J: RunSpec, K: Journal> {
     state: Mutex<PoolState<J>>,
     freed: Condvar,
     commit_lock: GroupCommitLock<J, K>,
@@ -282,40 +282,9 @@ fn schedule<J: RunSpec, K: Journal, R: Wait, P: RunPerformer<J>, G: Gate>(
     unreachable!()
 }
 
-// Runs calls, each to its answer, until none is left or the run stops. Gate, link and journal are called
-// without the lock.
-fn run_calls<J: RunSpec, K: Journal, R: Wait, L: Link, G: Gate>(
-    rt: &R,
-    pool: &Pool<J, K>,
-    calls: &[Call],
-    worker: &Worker<L, G>,
-    outstanding_calls: &mut OutstandingCalls<J>,
-)
-    requires { calls.now ≡ J.calls }
-{
-    let performer = AtOnce::new(rt, worker.link, worker.gate.is_silent());
-    for _ in rt.forever() {
-        if pool.commit_lock.is_stopped()
-            || !schedule(rt, pool, calls, outstanding_calls, &performer, worker.gate)
-        {
-            return;
-        }
-        outstanding_calls.tell_waiting(worker.gate);
-        outstanding_calls.tell_begun(worker.gate);
-        while let Some(ready) = outstanding_calls.next_ready() {
-            ready.tell_stage(worker.gate);
-            conclude(rt, pool, ready, worker.gate);
-        }
-        if pool.commit_lock.is_stopped() {
-            return;
-        }
-        outstanding_calls.exchange(rt, worker.number, worker.link, worker.gate);
-    }
-    unreachable!()
-}
-
-// What a worker does: it takes calls until none is left, or the run stops. Where there is no memory for its
-// outstanding calls, it takes none, and others do.
+// What a worker does: it runs calls, each to its answer, until none is left or the run stops. Gate, link and journal are
+// called without the lock, but for what the link performs at once. Where there is no memory for its outstanding calls, it
+// takes none, and others do.
 fn work<J: RunSpec, K: Journal, R: Wait, L: Link, G: Gate>(
     rt: &R,
     alloc: Global,
@@ -325,9 +294,27 @@ fn work<J: RunSpec, K: Journal, R: Wait, L: Link, G: Gate>(
 )
     requires { calls.now ≡ J.calls }
 {
+    let gate = worker.gate;
+    let performer = AtOnce::new(rt, worker.link, gate.is_silent());
     let mut outstanding_calls = OutstandingCalls::new(alloc);
     if outstanding_calls.reserve(worker.most).is_ok() {
-        run_calls(rt, pool, calls, worker, &mut outstanding_calls);
+        for _ in rt.forever() {
+            if pool.commit_lock.is_stopped()
+                || !schedule(rt, pool, calls, &mut outstanding_calls, &performer, gate)
+            {
+                break;
+            }
+            outstanding_calls.tell_waiting(gate);
+            outstanding_calls.tell_begun(gate);
+            while let Some(ready) = outstanding_calls.next_ready() {
+                ready.tell_stage(gate);
+                conclude(rt, pool, ready, gate);
+            }
+            if pool.commit_lock.is_stopped() {
+                break;
+            }
+            outstanding_calls.exchange(rt, worker.number, worker.link, gate);
+        }
     }
     let mut pool_state = acquire(rt, &pool.state);
     outstanding_calls.close(&mut *pool_state);
@@ -335,14 +322,14 @@ fn work<J: RunSpec, K: Journal, R: Wait, L: Link, G: Gate>(
 
 // How many calls each of so many workers has on their way at a time: one where a call could wait for another's wire or
 // gate. Over a prompt link one worker, and each in a run with a journal, carries one call's wires after the other's.
-fn at_a_time<L: Link, G: Gate>(link: &L, gate: &G, is_kept: bool, workers: usize) -> MostCalls {
+fn at_a_time<L: Link, G: Gate>(link: &L, gate: &G, has_journal: bool, workers: usize) -> MostCalls {
     let window = link.window().max(1);
     let is_prompt = link.is_prompt();
     if !gate.is_prompt() || (!is_prompt && window == 1) {
         return ONE_CALL;
     }
     MostCalls {
-        away: if is_prompt && (is_kept || workers == 1) {
+        away: if is_prompt && (has_journal || workers == 1) {
             1
         } else {
             window
@@ -353,7 +340,7 @@ fn at_a_time<L: Link, G: Gate>(link: &L, gate: &G, is_kept: bool, workers: usize
 }
 
 // Starts the workers and joins them. Answers how many were started.
-fn work_all<
+pub(crate) fn work_all<
     J: RunSpec + Send + Sync,
     K: Journal + Send,
     R: Threads + Wait + Sync,
@@ -370,7 +357,7 @@ fn work_all<
 ) -> usize
     requires { calls.now ≡ J.calls }
 {
-    let most = at_a_time(link, gate, pool.commit_lock.is_kept(), workers);
+    let most = at_a_time(link, gate, pool.commit_lock.has_journal(), workers);
     thread::scope(
         thread::scope_env(),
         rt,
@@ -413,55 +400,52 @@ pub(crate) enum Ran {
     Stopped(NotKept, TcState),
 }
 
-// The run from the pool's state on, and the journal behind it.
-pub(crate) fn run_over<
-    J: RunSpec + Send + Sync,
-    K: Journal + Send,
-    R: Threads + Wait + Sync,
-    L: Link + Sync,
-    G: Gate + Sync,
->(
-    rt: &R,
-    alloc: Global,
-    pool_state: PoolState<J>,
-    commit_lock: GroupCommitLock<J, K>,
-    calls: &[Call],
-    answers: Vec<Answer>,
-    workers: usize,
-    link: &L,
-    gate: &G,
-) -> (GroupCommit<J, K>, Ran)
-    requires calls { calls.now ≡ J.calls }
-    requires empty { answers.items ≡ [] }
-    requires room { length J.calls ≤ vec_capacity answers }
-    ensures ran { RanFits J.start J.calls J.keeps result.1 }
-    ensures kept { RanKeeps K.has_kept J.before J.start.events J.keeps result.1 result.0 }
-{
-    let pool = Pool {
-        state: Mutex::new(pool_state),
-        freed: Condvar::new(),
-        commit_lock,
-    };
-    let started = work_all(rt, alloc, &pool, calls, workers, link, gate);
-    let Pool {
-        state,
-        freed: _,
-        commit_lock,
-    } = pool;
-    let pool_state = state.into_inner();
-    let mut group_commit = commit_lock.into_group_commit();
-    if started == 0 && !pool_state.is_touched() {
-        let ran = Ran::NoThread(pool_state.into_state());
-        return (group_commit, ran);
+impl<J: RunSpec, K: Journal> Pool<J, K> {
+    // No worker holds any of it yet.
+    pub(crate) fn new(pool_state: PoolState<J>, commit_lock: GroupCommitLock<J, K>) -> Pool<J, K> {
+        Pool {
+            state: Mutex::new(pool_state),
+            freed: Condvar::new(),
+            commit_lock,
+        }
     }
-    let worker = Worker {
-        number: 0,
-        link,
-        gate,
-        most: ONE_CALL,
-    };
-    let ran = completed(rt, pool_state, calls, answers, &worker, &mut group_commit);
-    (group_commit, ran)
+
+    // What came of a run once its workers have ended, of whom so many were started, and the journal behind it.
+    pub(crate) fn ran_by<R: Wait, L: Link, G: Gate>(
+        self,
+        rt: &R,
+        started: usize,
+        calls: &[Call],
+        answers: Vec<Answer>,
+        link: &L,
+        gate: &G,
+    ) -> (GroupCommit<J, K>, Ran)
+        requires calls { calls.now ≡ J.calls }
+        requires empty { answers.items ≡ [] }
+        requires room { length J.calls ≤ vec_capacity answers }
+        ensures ran { RanFits J.start J.calls J.keeps result.1 }
+        ensures kept { RanKeeps K.has_kept J.before J.start.events J.keeps result.1 result.0 }
+    {
+        let Pool {
+            state,
+            freed: _,
+            commit_lock,
+        } = self;
+        let pool_state = state.into_inner();
+        let mut group_commit = commit_lock.into_group_commit();
+        if started == 0 && !pool_state.is_touched() {
+            let ran = Ran::NoThread(pool_state.into_state());
+            return (group_commit, ran);
+        }
+        let worker = Worker {
+            number: 0,
+            link,
+            gate,
+            most: ONE_CALL,
+        };
+        let ran = completed(rt, pool_state, calls, answers, &worker, &mut group_commit);
+        (group_commit, ran)
+    }
 }
 
 // The report, once each call that has no answer yet has one, and all is kept.

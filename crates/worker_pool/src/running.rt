@@ -11,7 +11,7 @@ use crate::answer::{Answer, Progress};
 use crate::batch::Batch;
 use crate::group_commit::{GroupCommit, GroupCommitLock};
 use crate::handed::Opened;
-use crate::pool::{Gate, Ran, run_over};
+use crate::pool::{Gate, Pool, Ran, work_all};
 use crate::pool_state::PoolState;
 use crate::report::Report;
 use crate::run_spec::RunSpec;
@@ -23,9 +23,11 @@ use std::sync::Wait;
 use std::thread::Threads;
 use tc_core::state::{Call, TcState};
 
-const MOST_WORKERS: usize = 64;
+/// How many workers a run has at most.
+pub const MOST_WORKERS: usize = 64;
 
-const MOST_TRIES: u64 = 1000;
+/// How often a request is sent at most.
+pub const MOST_TRIES: u64 = 1000;
 
 /// Why a run has no report. The first four are looked for in this order, before any call is begun. Each hands the state
 /// back.
@@ -179,17 +181,9 @@ fn run_named<
     let group_commit = GroupCommit::new(journal, keeps, count, handed.again(), events, batch);
     let pool_state = PoolState::new(state, progress, tries, handed);
     let commit_lock = GroupCommitLock::new(group_commit, keeps);
-    let (group_commit, ran) = run_over(
-        rt,
-        alloc,
-        pool_state,
-        commit_lock,
-        calls,
-        answers,
-        workers,
-        link,
-        gate,
-    );
+    let pool = Pool::new(pool_state, commit_lock);
+    let started = work_all(rt, alloc, &pool, calls, workers, link, gate);
+    let (group_commit, ran) = pool.ran_by(rt, started, calls, answers, link, gate);
     let journal = group_commit.into_journal();
     let ran = match ran {
         Ran::Done(report) => Ok(report),

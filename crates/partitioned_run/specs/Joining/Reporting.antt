@@ -15,16 +15,16 @@ use Rattle.partitioned_run.specs.Logged.{front_lines, AreRunBehind, AreRunFrom, 
 use Rattle.partitioned_run.specs.Partitioned.{IsRunApart}
 use Rattle.partitioned_run.specs.declared.dividing.Division.{Division}
 use Rattle.partitioned_run.specs.declared.answering.PartitionOutcome.{PartitionOutcome}
-use Rattle.partitioned_run.specs.declared.reporting.All.{All}
+use Rattle.partitioned_run.specs.declared.reporting.Outcomes.{Outcomes}
 
 -- each in the order of the partitions
-abbrev pub AreAll : List PartitionOutcome → All → Type 0
+abbrev pub AreAll : List PartitionOutcome → Outcomes → Type 0
 AreAll runs all =
     (all.grounds.items ≡ map (λ (ran : PartitionOutcome). ran.ground) runs) × (all.first.items ≡ map (λ (ran : PartitionOutcome). ran.answers.first) runs)
     × (all.calls.items ≡ map (λ (ran : PartitionOutcome). ran.answers.calls) runs)
 
 -- what all runs came to, none of which was stopped
-pub record AreAllOf (ran : List (Result PartitionOutcome Stop)) (all : All) : Type 0 where
+pub record AreAllOf (ran : List (Result PartitionOutcome Stop)) (all : Outcomes) : Type 0 where
   pub runs : List PartitionOutcome
   pub oks : ran ≡ map Ok runs
   pub together : AreAll runs all
@@ -37,7 +37,7 @@ MayBeRun object b (Accepted a) =
 MayBeRun object b (Refused report) = (b.refusal ≡ Some (string_bytes report.lines)) × (report.status ≡ 1)
 
 -- those of each partition, by what it goes on from
-pub record AreAllRun (c : Contents) (d : Division) (starts : List Start) (all : All) : Type 0 where
+pub record AreAllRun (c : Contents) (d : Division) (starts : List Start) (all : Outcomes) : Type 0 where
   pub count : length starts ≡ max (length (empty_stores c)) 1
   pub grounds : length all.grounds.items ≡ length starts
   pub first : length all.first.items ≡ length all.grounds.items
@@ -48,7 +48,7 @@ pub record AreAllRun (c : Contents) (d : Division) (starts : List Start) (all : 
       first_answers.items other_answers.items behind
 
 -- those of each partition, behind the lines of what came back
-pub record HaveRun (keeps : Bool) (c : Contents) (d : Division) (front : List ℕ) (all : All) : Type 0 where
+pub record HaveRun (keeps : Bool) (c : Contents) (d : Division) (front : List ℕ) (all : Outcomes) : Type 0 where
   pub starts : List Start
   pub are : AreStarts keeps (begun c) (empty_stores c) d.partitions starts
   pub told : front ≡ front_lines starts

@@ -15,22 +15,22 @@ answer_partitions-requires-clause-kept g c κs within =
     let s = contents_of c.args.task.script.now in
     kept_starts (is_some c.args.task.log) (begun s) (empty_stores s) c.args.task.division.now.partitions c.args.starts.items c.requires.starts
 
-pub told-report-requires-clause-run : goal.told-report-requires-clause-run
-told-report-requires-clause-run g c =
+pub reported_if_named-report-requires-clause-run : goal.reported_if_named-report-requires-clause-run
+reported_if_named-report-requires-clause-run g c =
     let s = contents_of c.args.task.script.now in
     record {
       starts = c.args.starts.items;
       are = c.requires.starts;
       told = c.in-Ok.ensures ∙ ap front_lines c.as_slice.ensures.value;
-      run = all_run s c.args.task.division.now c.args.starts.items c.in_ok-ran.ran.items c.in-Ok-all_of.all
+      run = all_run s c.args.task.division.now c.args.starts.items c.in_ok-ran.ran.items c.in-Ok-outcomes_of.all
           (c.requires.each ∙ ap (λ (n : ℕ). max n 1) (sym (length-map s.dcs empty_store))) (λ p start is. (c.requires.starts p start is).0)
-          c.in_ok-ran.ensures c.in-Ok-all_of.ensures;
+          c.in_ok-ran.ensures c.in-Ok-outcomes_of.ensures;
     }
 
-pub returns-in-Ok-all_of : goal.returns-in-Ok-all_of
-returns-in-Ok-all_of g c = λ range.
+pub returns-in-Ok-outcomes_of : goal.returns-in-Ok-outcomes_of
+returns-in-Ok-outcomes_of g c = λ range.
     let m = c.args.task.manner in
-    ran_apart (is_some c.args.task.log) (contents_of c.args.task.script.now) m.workers m.tries m.audit c.told-report.result range c.told-report.ensures
+    ran_apart (is_some c.args.task.log) (contents_of c.args.task.script.now) m.workers m.tries m.audit c.reported_if_named-report.result range c.reported_if_named-report.ensures
 
 pub returns-in-Err-Stopped-default-NoThread : goal.returns-in-Err-Stopped-default-NoThread
 returns-in-Err-Stopped-default-NoThread g c = λ range.

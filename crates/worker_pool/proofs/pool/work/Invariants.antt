@@ -1,4 +1,4 @@
-use Rattle.worker_pool.proofs.pool.run_calls.Given as goal
+use Rattle.worker_pool.proofs.pool.work.Given as goal
 
 abbrev pub invariant-loop-ready : goal.invariant-loop-ready
 invariant-loop-ready g l = Unit {0}

@@ -15,18 +15,18 @@ pub returns-clause-report : goal.returns-clause-report
 returns-clause-report g c =
     let Fits : Ran → Type 0 = λ ran. RanFits g.J.RunSpec.start g.J.RunSpec.calls g.J.RunSpec.keeps ran in
     elim c.match-ran.branch [
-      | in-Done w ↦ rw w.ran-is (subst Fits w.in-Done.is c.run_over-group_commit.ensures.ran)
+      | in-Done w ↦ rw w.ran-is (subst Fits w.in-Done.is c.ran_by-group_commit.ensures.ran)
       | in-NoThread w ↦ rw w.ran-is tt
       | in-Stopped w ↦ rw w.ran-is tt
     ]
 
 pub returns-clause-kept : goal.returns-clause-kept
 returns-clause-kept g c = λ keeps.
-    let Keeps : Ran → Type 0 = λ ran. RanKeeps g.K.Journal.has_kept g.J.RunSpec.before g.J.RunSpec.start.events g.J.RunSpec.keeps ran c.run_over-group_commit.result.0 in
+    let Keeps : Ran → Type 0 = λ ran. RanKeeps g.K.Journal.has_kept g.J.RunSpec.before g.J.RunSpec.start.events g.J.RunSpec.keeps ran c.ran_by-group_commit.result.0 in
     elim c.match-ran.branch [
-      | in-Done w ↦ let all = subst Keeps w.in-Done.is c.run_over-group_commit.ensures.kept keeps in
+      | in-Done w ↦ let all = subst Keeps w.in-Done.is c.ran_by-group_commit.ensures.kept keeps in
           rw w.ran-is (record {
-            behind = events_of c.run_over-group_commit.result.0.handed;
+            behind = events_of c.ran_by-group_commit.result.0.handed;
             log = all.log;
             kept = λ events before. rw c.into_journal-journal.ensures.same (all.kept events before);
           })
@@ -39,8 +39,8 @@ returns-clause-which g c =
     let Fits : Ran → Type 0 = λ ran. RanFits g.J.RunSpec.start g.J.RunSpec.calls g.J.RunSpec.keeps ran in
     elim c.match-ran.branch [
       | in-Done w ↦ rw w.ran-is c.in-Ok.ensures.which
-      | in-NoThread w ↦ rw w.ran-is (subst Fits w.in-NoThread.is c.run_over-group_commit.ensures.ran, c.in-Ok.ensures.which)
-      | in-Stopped w ↦ let stopped = subst Fits w.in-Stopped.is c.run_over-group_commit.ensures.ran in
+      | in-NoThread w ↦ rw w.ran-is (subst Fits w.in-NoThread.is c.ran_by-group_commit.ensures.ran, c.in-Ok.ensures.which)
+      | in-Stopped w ↦ let stopped = subst Fits w.in-Stopped.is c.ran_by-group_commit.ensures.ran in
           rw w.ran-is (stopped.0, c.in-Ok.ensures.which, stopped.1)
     ]
 
@@ -55,11 +55,11 @@ returns-in-Err-clause-unkept g c =
 
 pub returns-clause-unkept : goal.returns-clause-unkept
 returns-clause-unkept g c =
-    let Keeps : Ran → Type 0 = λ ran. RanKeeps g.K.Journal.has_kept g.J.RunSpec.before g.J.RunSpec.start.events g.J.RunSpec.keeps ran c.run_over-group_commit.result.0 in
+    let Keeps : Ran → Type 0 = λ ran. RanKeeps g.K.Journal.has_kept g.J.RunSpec.before g.J.RunSpec.start.events g.J.RunSpec.keeps ran c.ran_by-group_commit.result.0 in
     elim c.match-ran.branch [
       | in-Done w ↦ rw w.ran-is tt
       | in-NoThread w ↦ rw w.ran-is tt
-      | in-Stopped w ↦ rw w.ran-is (c.into_journal-journal.ensures.unkept w.in-Stopped.why (subst Keeps w.in-Stopped.is c.run_over-group_commit.ensures.kept))
+      | in-Stopped w ↦ rw w.ran-is (c.into_journal-journal.ensures.unkept w.in-Stopped.why (subst Keeps w.in-Stopped.is c.ran_by-group_commit.ensures.kept))
     ]
 
 pub returns-clause-any_moment : goal.returns-clause-any_moment

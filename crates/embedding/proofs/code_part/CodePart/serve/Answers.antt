@@ -9,7 +9,9 @@ pub returns-in-11 : goal.returns-in-11
 returns-in-11 c = run_as _ _ _ _ _ _ c.in-11.is refl (λ _. refl) (c.more_slots.ensures.why) (λ _. refl) (c.more_slots.ensures.done) (c.more_slots.ensures.refused)
 
 pub returns-in-12 : goal.returns-in-12
-returns-in-12 c = run_as _ _ _ _ _ _ c.in-12.is refl (λ _. refl) (λ wrong. absurd (wrong c.clear.ensures.code)) (λ _. refl) (λ _. c.clear.ensures.done) (λ wrong. absurd (wrong c.clear.ensures.code))
+returns-in-12 c =
+    run_as _ _ _ _ _ _ c.in-12.is refl (λ _. refl) (λ wrong. absurd (wrong c.clear.ensures.code)) (λ _. refl)
+    (λ _. c.clear.ensures.done) (λ wrong. absurd (wrong c.clear.ensures.code))
 
 pub returns-in-50 : goal.returns-in-50
 returns-in-50 c = run_as _ _ _ _ _ _ c.in-50.is refl (c.verify.ensures.refused) (c.verify.ensures.why) (c.verify.ensures.done) (λ _. c.verify.ensures.gathered) (λ _. c.verify.ensures.gathered)

@@ -66,11 +66,13 @@ returns-in-27 c = served_as _ _ _ _ _ _ c.in-27.is refl (c.end.ensures.refused) 
     (λ _. c.end.ensures.gathered) (λ _. c.end.ensures.gathered) (λ _. c.end.ensures.kept) (λ _ _. c.end.ensures.kept)
 
 pub returns-in-28 : goal.returns-in-28
-returns-in-28 c = served_as _ _ _ _ _ _ c.in-28.is refl (λ _. refl) (λ wrong. absurd (wrong refl)) (λ _. refl) (λ _. c.open_count.ensures)
+returns-in-28 c = served_as _ _ _ _ _ _ c.in-28.is refl (λ _. refl) (λ wrong. absurd (wrong c.open_count.ensures.code)) (λ _. refl)
+    (λ _. c.open_count.ensures.done)
     (λ _. same_gathered _) (λ _. same_gathered _) (λ _. refl) (λ _ _. refl)
 
 pub returns-in-29 : goal.returns-in-29
-returns-in-29 c = served_as _ _ _ _ _ _ c.in-29.is refl (λ _. refl) (λ wrong. absurd (wrong refl)) (λ _. refl) (λ _. c.len.ensures ∙ ap length c.log.ensures)
+returns-in-29 c = served_as _ _ _ _ _ _ c.in-29.is refl (λ _. refl) (λ wrong. absurd (wrong c.log_length.ensures.code)) (λ _. refl)
+    (λ _. c.log_length.ensures.done)
     (λ _. same_gathered _) (λ _. same_gathered _) (λ _. refl) (λ _ _. refl)
 
 pub returns-in-30 : goal.returns-in-30
@@ -100,7 +102,8 @@ returns-in-35 c = served_as _ _ _ _ _ _ c.in-35.is refl (c.begin_anew.ensures.re
     (λ _. c.begin_anew.ensures.gathered) (λ _. c.begin_anew.ensures.gathered) (λ _. c.begin_anew.ensures.kept) (λ _ _. c.begin_anew.ensures.kept)
 
 pub returns-in-36 : goal.returns-in-36
-returns-in-36 c = served_as _ _ _ _ _ _ c.in-36.is refl (λ _. refl) (λ wrong. absurd (wrong refl)) (λ _. refl) (λ _. (c.low_water-frame.ensures, c.last_number-frame.ensures))
+returns-in-36 c = served_as _ _ _ _ _ _ c.in-36.is refl (λ _. refl) (λ wrong. absurd (wrong c.low_water.ensures.code)) (λ _. refl)
+    (λ _. c.low_water.ensures.done)
     (λ _. same_gathered _) (λ _. same_gathered _) (λ _. refl) (λ _ _. refl)
 
 pub returns-in-37 : goal.returns-in-37

@@ -1,5 +1,5 @@
 use Rattle.std.proofs.Common.{◌∙◌, sym}
-use Rattle.worker_pool.proofs.pool.run_over.Goals as goal
+use Rattle.worker_pool.proofs.pool.Pool.ran_by.Goals as goal
 
 pub returns-then-not-is_touched-clause-ran : goal.returns-then-not-is_touched-clause-ran
 returns-then-not-is_touched-clause-ran g c =

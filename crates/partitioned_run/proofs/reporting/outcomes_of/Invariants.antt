@@ -1,5 +1,5 @@
 use Rattle.partitioned_run.specs.Joining.Reporting.{AreAllOf}
-use Rattle.partitioned_run.proofs.reporting.all_of.Given as goal
+use Rattle.partitioned_run.proofs.reporting.outcomes_of.Given as goal
 
 abbrev pub invariant-runs : goal.invariant-runs
 invariant-runs l =
