@@ -1,7 +1,7 @@
 """Command lines: which aren't understood, and what can't be read."""
 from .row import Row
 
-NUMBER = b"error: an ARG, N or P is no number of 64 bits in decimal"
+NUMBER = b"error: an ARG, N, P or BYTES is no number of 64 bits in decimal"
 # Words, and what standard error begins with.
 WRONG = [
     ([], b"error: a command is missing"),

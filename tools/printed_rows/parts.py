@@ -13,7 +13,7 @@ MOST = 2**64 - 1
 ONE = b"error: log takes one of --rows, --audit, --picture and --follow"
 PARTS = b"error: log takes one of --from and --tail"
 UNWANTED = b"error: log takes --from and --tail with neither --rows nor --audit"
-NUMBER = b"error: an ARG, N or P is no number of 64 bits in decimal"
+NUMBER = b"error: an ARG, N, P or BYTES is no number of 64 bits in decimal"
 # Words behind `log`, before the file and behind it, and what standard error begins with. `{svg}` isn't there yet.
 WRONG = [
     (["--from", "1", "--tail", "1"], [], PARTS),
@@ -29,10 +29,10 @@ WRONG = [
     (["--audit", "--follow"], ["script"], ONE),
     (["--picture", "{svg}", "--follow"], [], ONE),
     (["--follow", "--from", "1", "--tail", "1"], [], PARTS),
-    (["--follow"], ["script"], b"error: log takes a SCRIPT with --audit alone"),
+    (["--follow"], ["script"], b"error: log takes a SOURCE with --audit alone"),
     (["--audit"], ["object", "script", "more"], b"error: "),
-    (["--picture", "{svg}"], ["script"], b"error: log takes a SCRIPT with --audit alone"),
-    (["--audit", "--tail", "1"], [], b"error: log --audit takes a SCRIPT as well"),
+    (["--picture", "{svg}"], ["script"], b"error: log takes a SOURCE with --audit alone"),
+    (["--audit", "--tail", "1"], [], b"error: log --audit takes a SOURCE as well"),
     (["--from", "x"], [], NUMBER),
     (["--from", ""], [], NUMBER),
     (["--tail", "-1"], [], b"error: "),
