@@ -366,21 +366,21 @@ impl<J: RunSpec, K: Journal> GroupCommit<J, K> {
 pub struct GroupCommitLock<J: RunSpec, K: Journal> {
     group_commit: Mutex<GroupCommit<J, K>>,
     // Whether the run has a journal.
-    is_kept: bool,
+    has_journal: bool,
     stopped: AtomicU64,
-    ghost kept_is: { is_kept ≡ J.keeps },
+    ghost journal_is: { has_journal ≡ J.keeps },
 }
 
 impl<J: RunSpec, K: Journal> GroupCommitLock<J, K> {
     ghost use Rattle.std.specs.Prelude.{◌≡◌, IfSome};
 
     /// The journal of a run that has one, or none.
-    pub fn new(group_commit: GroupCommit<J, K>, is_kept: bool) -> GroupCommitLock<J, K>
-        requires { is_kept ≡ J.keeps }
+    pub fn new(group_commit: GroupCommit<J, K>, has_journal: bool) -> GroupCommitLock<J, K>
+        requires { has_journal ≡ J.keeps }
     {
         GroupCommitLock {
             group_commit: Mutex::new(group_commit),
-            is_kept,
+            has_journal,
             stopped: AtomicU64::new(0),
         }
     }
@@ -395,7 +395,7 @@ impl<J: RunSpec, K: Journal> GroupCommitLock<J, K> {
     ) -> Option<Acknowledgement<J>>
         ensures { IfSome result (λ acknowledgement. acknowledgement ≡ ready) }
     {
-        if !self.is_kept {
+        if !self.has_journal {
             return Some(Acknowledgement::free(ready));
         }
         let concluded = self.group_commit.lock(rt).conclude(rt, pool_state, ready);
@@ -409,8 +409,8 @@ impl<J: RunSpec, K: Journal> GroupCommitLock<J, K> {
     }
 
     /// Whether the run has a journal.
-    pub fn is_kept(&self) -> bool {
-        self.is_kept
+    pub fn has_journal(&self) -> bool {
+        self.has_journal
     }
 
     /// Whether the run stops.
@@ -422,7 +422,7 @@ impl<J: RunSpec, K: Journal> GroupCommitLock<J, K> {
     pub fn into_group_commit(self) -> GroupCommit<J, K> {
         let GroupCommitLock {
             group_commit,
-            is_kept: _,
+            has_journal: _,
             stopped: _,
         } = self;
         group_commit.into_inner()

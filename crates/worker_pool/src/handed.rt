@@ -68,6 +68,7 @@ pub struct Opened {
 }
 
 impl Opened {
+    /// No batch was handed over.
     pub fn new() -> Opened {
         let (seen, mut first, _second) = Seen::open(Start::alone(), 0, 0);
         Opened {

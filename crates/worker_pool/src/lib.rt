@@ -47,12 +47,11 @@ mod running;
 mod stage;
 
 pub use acknowledgement::Acknowledgement;
-pub use answer::{Answer, Progress};
+pub use answer::Answer;
 pub use dc_links::Link;
 pub use laws::carried_is_in_flight;
-pub use outstanding_call::OutstandingCall;
 pub use pool::{Gate, OpenGate};
 pub use report::Report;
 pub use run_spec::RunSpec;
-pub use running::{RunFault, run};
+pub use running::{MOST_TRIES, MOST_WORKERS, RunFault, run};
 pub use stage::Stage;

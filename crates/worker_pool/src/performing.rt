@@ -25,6 +25,7 @@ pub struct AtOnce<'a, J: RunSpec, R, L> {
 }
 
 impl<'a, J: RunSpec, R: Wait, L: Link> AtOnce<'a, J, R, L> {
+    /// Over this link.
     pub fn new(rt: &'a R, link: &'a L, is_wanted: bool) -> AtOnce<'a, J, R, L> {
         AtOnce {
             rt,

@@ -7,11 +7,11 @@ use access_slots::op::Wire;
 /// worker whose data component restarts again and again comes to an end.
 #[derive(Clone, Copy)]
 pub struct RedoBudget {
-    // So often may each number be sent to this incarnation.
+    // How often each number may be sent to this incarnation.
     each: u64,
-    // So many more times the number that was sent last.
+    // How often the number that was sent last may still be sent.
     left: u64,
-    // The fewest times that are left of any number.
+    // The least of what is left, over all numbers.
     least: u64,
     // Whether the number that was sent last was sent once too often.
     spent: bool,
