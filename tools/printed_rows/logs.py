@@ -260,6 +260,12 @@ def rows(_program):
         smaller.write_text(dcs + SCRIPT[SCRIPT.index("proc") :])
         log.write_bytes(frames(OWN, batch(*kept(1, 1, DONE), *kept(2, 2, DONE))))
         yield Row(["run", "--log", str(log), str(smaller)], b"", printed, int(printed.startswith(b"refused")))
+    # a run that is refused opens no file, and begins no call of either list
+    first, unmade = pathlib.Path(folder.name, "first"), pathlib.Path(folder.name, "unmade")
+    first.write_text(SCRIPT + "first keep 1\n")
+    for words, why in ((["--workers", "65"], "G1 Workers"), (["--tries", "0"], "G2 Tries")):
+        yield Row(["run", "--log", str(unmade), *words, str(first)], b"", f"refused {why}\n".encode(), 1)
+        yield Row(["log", str(unmade)], b"", b"", 3, f"cannot read {unmade}: no such file or directory\n".encode())
     yield from kinds(pathlib.Path(folder.name), script)
     for given, printed, status in AUDITED:
         yield Row([*audit, str(script)], given, printed.encode(), status)

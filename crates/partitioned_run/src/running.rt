@@ -34,21 +34,6 @@ use std::rt::Files;
 use std::sync::Wait;
 use std::thread::Threads;
 use std::time::Clock;
-use worker_pool::{MOST_TRIES, MOST_WORKERS};
-
-// Why no call is begun, if that is so by the numbers of workers and of tries. The tries are looked at first.
-fn unfit(manner: Manner) -> Option<Stop>
-    ensures unfit { IfSome result (Stops false manner.workers manner.tries) }
-    ensures fit { result ≡ None → InRange manner.workers manner.tries }
-{
-    if !(1..=MOST_TRIES).contains(&manner.tries) {
-        Some(Stop::Tries)
-    } else if !(1..=MOST_WORKERS as u64).contains(&manner.workers) {
-        Some(Stop::Workers)
-    } else {
-        None
-    }
-}
 
 // The report of calls that were run, behind these lines, and of data components that were empty.
 fn reported(
@@ -211,7 +196,7 @@ fn run_fit<R: Files<File = File> + Clock + Threads + Wait + Sync>(
     ensures { IfOk result (λ r. IsContentsRun (is_some log.entry) (contents_of accepted.entry.script)
         manner.workers manner.tries manner.audit r.status (string_bytes r.lines)) }
 {
-    match unfit(manner) {
+    match Stop::of_manner(manner) {
         Some(stop) => {
             drop(accepted);
             Ok(stopped(alloc, stop)?)

@@ -25,7 +25,7 @@ use Rattle.run_command.specs.declared.anew.Renewal.{Renewal}
 use Rattle.run_command.specs.Kept.{FileJournal}
 use Rattle.run_command.specs.Parts.{IsKeptSo}
 use Rattle.run_command.specs.Running.{IsRunBy, IsCallsRun, Ran, Stopped, never, begun, empty_stores}
-use Rattle.run_command.specs.Logged.{IsLoggedRun, Refused, Behind as GoneOn, IsLoggedBy}
+use Rattle.run_command.specs.Logged.{IsLoggedRun, Unopened, Refused, Behind as GoneOn, IsLoggedBy}
 use Rattle.partitioned_run.specs.Partitioned.{IsCallsRunApart, IsRunApart, Ran as RanApart, Stopped as StoppedApart}
 use Rattle.partitioned_run.specs.Logged.{AreRunBehind, IsPartitionedBy, IsRunBehind as IsApartBehind, Refused as RefusedApart, Behind as BehindApart}
 use Rattle.world_command.specs.WorldReport.{IsWorldBy, status_of_steps}
@@ -99,6 +99,7 @@ run_low None contents workers tries audit results status lines h =
 behind_low : (journal : Option FileJournal) (checkpoints : Checkpoints) (start : Core) (empties : List Store)
     (first calls : List Call) (workers tries : ℕ) (audit results : Bool)
     (status : ℕ) (lines : List ℕ) → IsLoggedRun journal checkpoints start empties first calls workers tries audit results status lines → status ≤ 1
+behind_low journal checkpoints start empties first calls workers tries audit results status lines (Unopened fault when is line) = omega (arith, is)
 behind_low journal checkpoints start empties first calls workers tries audit results status lines (Refused why is) = omega (arith, is)
 behind_low journal checkpoints start empties first calls workers tries audit results status lines (GoneOn b) =
     calls_low (IsKeptSo journal checkpoints) checkpoints b.on.anew b.on.anew_dcs first calls workers tries audit results status b.on.answers b.on.ran

@@ -35,6 +35,9 @@ use Rattle.run_command.specs.Kept.{FileJournal}
 use Rattle.run_command.specs.LogLines.{IsOpenRefusal, kind_refusal, back_refusal, overfull_refusal, back_lines}
 use Rattle.run_command.specs.Parts.{IsKeptSo}
 use Rattle.run_command.specs.Running.{IsCallsRun, begun, empty_stores}
+use Rattle.run_command.specs.declared.stop.Stop.{Stop}
+use Rattle.run_command.specs.AnswerLines.{fault_line}
+use Rattle.run_command.specs.Stops.{Stops}
 
 -- ---- what is gone on from
 
@@ -118,9 +121,11 @@ pub record IsRunBehind (journal : Option FileJournal) (checkpoints : Checkpoints
   pub path : List ℕ
   pub on : IsRunOn journal checkpoints back dcs first calls workers tries audit results status (back_lines (length log) dropped path resumed) lines
 
--- the log is refused, or the calls are run behind it
+-- no file is opened where the numbers of workers and tries are out of range; else the log is refused, or the calls are run behind it
 pub data IsLoggedRun (journal : Option FileJournal) (checkpoints : Checkpoints) (start : Core) (empties : List Store) (first calls : List said.Call)
     (workers tries : ℕ) (audit results : Bool) (status : ℕ) (lines : List ℕ) : Type 0 where
+  Unopened : (stop : Stop) → Stops false workers tries stop → status ≡ 1 → fault_line stop ≡ Some lines
+      → IsLoggedRun journal checkpoints start empties first calls workers tries audit results status lines
   Refused : IsLogRefusal start empties lines → status ≡ 1
       → IsLoggedRun journal checkpoints start empties first calls workers tries audit results status lines
   Behind : IsRunBehind journal checkpoints start empties first calls workers tries audit results status lines

@@ -26,7 +26,7 @@ use crate::anew::{Ground, renew, write_renewal};
 use crate::answering::{FileJournal, RunInput};
 pub use crate::log_lines::kind_refusal;
 use crate::log_lines::{back_lines, back_refusal, open_refusal, other_refusal, overfull_refusal};
-use crate::running::{RunOptions, RunReport, run_from};
+use crate::running::{RunOptions, RunReport, run_from, stopped};
 use crate::stop::Stop;
 use base_records::{base_fault_line, begin as begin_with};
 use coming_back::{ComeBackFault, Resumed, come_back};
@@ -479,7 +479,7 @@ fn run_on<R: Files<File = File> + Clock + Threads + Wait + Sync>(
     }
 }
 
-// Runs the calls of a script that is loaded behind what the log's file has.
+// Runs the calls of a script that is loaded behind what the log's file has, which isn't opened where no call may be begun.
 fn run_behind<R: Files<File = File> + Clock + Threads + Wait + Sync>(
     rt: &R,
     alloc: Global,
@@ -492,6 +492,13 @@ fn run_behind<R: Files<File = File> + Clock + Threads + Wait + Sync>(
         options.entry.manner.workers options.entry.manner.tries options.entry.manner.audit options.entry.manner.results r.report.status (string_bytes r.report.lines)) }
 {
     let mut loaded = loaded;
+    if let Some(stop) = Stop::of_manner(options.manner) {
+        drop(loaded);
+        return Ok(RunReport {
+            report: stopped(alloc, stop)?,
+            journal: None,
+        });
+    }
     match begin(
         rt,
         alloc,

@@ -329,6 +329,10 @@ pub fn running<R: Files<File = File> + Clock + Threads + Wait + Sync>(
         Loading::Ready(loaded) => loaded,
         Loading::Refused(report) => return Ok(report),
     };
+    if let Some(stop) = Stop::of_manner(manner) {
+        drop(loaded);
+        return Ok(stopped(alloc, stop)?);
+    }
     let Loaded {
         state,
         dcs,

@@ -1,13 +1,17 @@
-use Rattle.std.proofs.Common.{rules, ◌≡◌, ◌∙◌, ◌++◌, ℕ, List, length, ap, subst}
+use Rattle.std.proofs.Common.{false, rules, ◌≡◌, ◌∙◌, ◌++◌, ℕ, List, length, ap, subst}
 use Rattle.std.specs.Prelude.{string_bytes}
 use Rattle.data_component.specs.Store.{Store, restarted}
 use Rattle.base_records.proofs.BaseLemmas.{begun_count}
 use Rattle.run_command.proofs.LoggedLemmas.{lent_whole}
 use Rattle.std.proofs.lemmas.List.{length-map}
 use Rattle.std.proofs.lemmas.Result.{IfOk-weaker}
-use Rattle.run_command.specs.Logged.{IsLogRefusal, IsRunOn, Refused, Behind}
+use Rattle.run_command.specs.Logged.{IsLogRefusal, IsRunOn, Unopened, Refused, Behind}
 use Rattle.run_command.specs.Recovering.{IsBackTo}
 use Rattle.run_command.proofs.logged.run_behind.Goals as goal
+
+pub returns-in-Some : goal.returns-in-Some
+returns-in-Some g c =
+    Unopened c.in-Some.stop (c.in-Some.ensures.unfit false) c.in_ok-stopped.ensures.status c.in_ok-stopped.ensures.lines
 
 pub returns-in-Ok-Ready : goal.returns-in-Ok-Ready
 returns-in-Ok-Ready g c =

@@ -1,11 +1,16 @@
-use Rattle.std.specs.Prelude.{string_bytes}
+use Rattle.std.specs.Prelude.{false, string_bytes}
 use Rattle.scripts.specs.declared.keyword.Command.TheVariants.{Run}
 use Rattle.script_loading.specs.Loading.{IsLoadingOf, beginning_of}
 use Rattle.script_loading.specs.declared.loading.Loading.TheVariants.{Ready}
 use Rattle.run_command.specs.Parts.{IsKeptSo}
-use Rattle.run_command.specs.Running.{never}
+use Rattle.run_command.specs.Running.{never, Stopped}
 use Rattle.run_command.proofs.RunLemmas.{run_weaker}
 use Rattle.run_command.proofs.running.running.Goals as goal
+
+pub returns-in-Some : goal.returns-in-Some
+returns-in-Some g c =
+    let ready : IsLoadingOf (beginning_of Run c.args.source) (Ready c.in-Ready.loaded) = rw c.in-Ready.is at c.in_ok-loaded.ensures in
+    rw ready.0 (Stopped c.in-Some.stop (c.in-Some.ensures.unfit false) c.in_ok-stopped.ensures.status c.in_ok-stopped.ensures.lines)
 
 pub returns-in-Ok : goal.returns-in-Ok
 returns-in-Ok g c =
