@@ -11,4 +11,5 @@ pub mod AtOnceLemmas
 pub mod Handing
 pub mod Leaving
 pub mod Grown
+pub mod Stopping
 pub mod Unbegun

@@ -4,5 +4,6 @@ pub mod Leaving
 pub mod Moves
 pub mod Ran
 pub mod Seen
+pub mod Unfitting
 pub mod Untried
 pub mod Ups

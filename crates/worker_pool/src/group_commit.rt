@@ -123,7 +123,8 @@ impl<J: RunSpec, K: Journal> Model for GroupCommit<J, K> {
 }
 
 impl<J: RunSpec, K: Journal> GroupCommit<J, K> {
-    ghost use Rattle.std.specs.Prelude.{◌≡◌, ◌+◌, ◌++◌, ◌∷◌, ℕ, List, [], None, Some, true, length, reverse, OnOk, IfOk, IfErr, IsErrOf};
+    ghost use Rattle.std.specs.Prelude.{◌≡◌, ◌+◌, ◌++◌, ◌∷◌, ℕ, List, [], None, Some, true, length, reverse, OnOk};
+    ghost use Rattle.std.specs.Prelude.{IfOk, IfErr, IsErrOf};
     ghost use Rattle.tc_log.specs.declared.event.Event.{Event as EventValue};
     ghost use Rattle.worker_pool.specs.Joining.Handing.{HasAll, events_of};
     ghost use Rattle.worker_pool.specs.Joining.Leaving.{HasStood, LeavesBehind};
@@ -148,7 +149,8 @@ impl<J: RunSpec, K: Journal> GroupCommit<J, K> {
         requires events { events ≡ length J.start.events }
         requires left { (events : List EventValue) → J.before events
             → LeavesBehind K.moment K.left_since J.start J.since J.past J.leaves events journal }
-        requires leaves { (events more : List EventValue) (left : List ℕ) → K.leaves journal events more left → J.leaves events more left }
+        requires leaves { (events more : List EventValue) (left : List ℕ) → K.leaves journal events more left
+            → J.leaves events more left }
     {
         GroupCommit {
             journal,
@@ -328,7 +330,8 @@ impl<J: RunSpec, K: Journal> GroupCommit<J, K> {
         pool_state: &mut PoolState<J>,
     ) -> Result<(), Stopped<J>>
         ensures same { pool_state.new ≡ pool_state.old }
-        ensures all { OnOk result (J.keeps ≡ true → KeepsAll K.has_kept J.before J.start.events pool_state.new.state.events self.new) }
+        ensures all { OnOk result (J.keeps ≡ true
+            → KeepsAll K.has_kept J.before J.start.events pool_state.new.state.events self.new) }
         ensures never_again { (why : Why) → self.old.fault ≡ Some why → self.new.journal ≡ self.old.journal }
         ensures stopped { IfErr result (λ stopped. self.new.fault ≡ Some stopped.why) }
     {

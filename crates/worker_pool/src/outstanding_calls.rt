@@ -1,6 +1,7 @@
 // The calls that a worker has on their way.
 
-ghost use Rattle.std.specs.Prelude.{◌≡◌, ◌+◌, ◌<◌, ◌≤◌, true, Some, None, IfSome, length, slice_get, vec_len, vec_capacity};
+ghost use Rattle.std.specs.Prelude.{◌≡◌, ◌+◌, ◌<◌, ◌≤◌, true, Some, None, IfSome, length, slice_get, vec_len};
+ghost use Rattle.std.specs.Prelude.{vec_capacity};
 ghost use Rattle.access_slots.specs.Locks.{target};
 ghost use Rattle.worker_pool.specs.Joining.Moves.{IsAnsweredBy};
 ghost use Rattle.worker_pool.specs.Restarts.{AreKnown};

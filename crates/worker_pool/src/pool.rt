@@ -1,9 +1,11 @@
 // Workers over one lock.
 
-ghost use Rattle.std.specs.Prelude.{◌≡◌, ◌<◌, ◌≤◌, ℕ, [], true, length, Some, slice_get, IfErr, OnOk, vec_capacity};
+ghost use Rattle.std.specs.Prelude.{◌≡◌, ◌<◌, ◌≤◌, ℕ, [], true, length, Some, slice_get, IfOk, IfErr, OnOk};
+ghost use Rattle.std.specs.Prelude.{vec_capacity};
 ghost use Rattle.worker_pool.specs.Joining.Seen.{IsAnswered, AnswersStay};
 ghost use Rattle.worker_pool.specs.Journals.{HasGoneOn};
-ghost use Rattle.worker_pool.specs.Joining.Ran.{RanFits, RanKeeps, KeepsAll};
+ghost use Rattle.worker_pool.specs.Reports.{Reports};
+ghost use Rattle.worker_pool.specs.Joining.Ran.{StopFits, IsFaultOf, KeepsAll};
 
 use crate::acknowledgement::{Acknowledgement, ReadyAnswer};
 use crate::answer::Answer;
@@ -14,6 +16,7 @@ use crate::performing::{AtOnce, RunPerformer};
 use crate::pool_state::{Next, PoolState};
 use crate::report::Report;
 use crate::run_spec::RunSpec;
+use crate::running::RunFault;
 use crate::stage::Stage;
 use access_slots::op::{Reply, Wire};
 use dc_links::{Link, acquire};
@@ -210,7 +213,8 @@ fn run_and_keep<J: RunSpec, K: Journal, R: Wait, L: Link, G: Gate>(
 ) -> Result<(), Stopped<J>>
     requires { calls.now ≡ J.calls }
     ensures answered { OnOk result ((k : ℕ) → k < length calls.now → IsAnswered pool_state.new.progress k) }
-    ensures kept { OnOk result (J.keeps ≡ true → KeepsAll K.has_kept J.before J.start.events pool_state.new.state.events group_commit.new) }
+    ensures kept { OnOk result (J.keeps ≡ true
+        → KeepsAll K.has_kept J.before J.start.events pool_state.new.state.events group_commit.new) }
     ensures stopped { IfErr result (λ stopped. group_commit.new.fault ≡ Some stopped.why) }
 {
     group_commit.check()?;
@@ -391,15 +395,6 @@ pub(crate) fn work_all<
     )
 }
 
-// What came of a run.
-pub(crate) enum Ran {
-    Done(Report),
-    // No worker could be started.
-    NoThread(TcState),
-    // Something wasn't kept.
-    Stopped(NotKept, TcState),
-}
-
 impl<J: RunSpec, K: Journal> Pool<J, K> {
     // No worker holds any of it yet.
     pub(crate) fn new(pool_state: PoolState<J>, commit_lock: GroupCommitLock<J, K>) -> Pool<J, K> {
@@ -419,12 +414,14 @@ impl<J: RunSpec, K: Journal> Pool<J, K> {
         answers: Vec<Answer>,
         link: &L,
         gate: &G,
-    ) -> (GroupCommit<J, K>, Ran)
+    ) -> (GroupCommit<J, K>, Result<Report, RunFault>)
         requires calls { calls.now ≡ J.calls }
         requires empty { answers.items ≡ [] }
         requires room { length J.calls ≤ vec_capacity answers }
-        ensures ran { RanFits J.start J.calls J.keeps result.1 }
-        ensures kept { RanKeeps K.has_kept J.before J.start.events J.keeps result.1 result.0 }
+        ensures report { IfOk result.1 (λ r. Reports J.start J.calls r.state r.answers.items) }
+        ensures kept { IfOk result.1 (λ r. J.keeps ≡ true → KeepsAll K.has_kept J.before J.start.events r.state.events result.0) }
+        ensures stopped { IfErr result.1 (StopFits J.start J.keeps) }
+        ensures unkept { IfErr result.1 (IsFaultOf result.0) }
     {
         let Pool {
             state,
@@ -434,8 +431,8 @@ impl<J: RunSpec, K: Journal> Pool<J, K> {
         let pool_state = state.into_inner();
         let mut group_commit = commit_lock.into_group_commit();
         if started == 0 && !pool_state.is_touched() {
-            let ran = Ran::NoThread(pool_state.into_state());
-            return (group_commit, ran);
+            let fault = RunFault::NoThread(pool_state.into_state());
+            return (group_commit, Err(fault));
         }
         let worker = Worker {
             number: 0,
@@ -456,16 +453,22 @@ fn completed<J: RunSpec, K: Journal, R: Wait, L: Link, G: Gate>(
     answers: Vec<Answer>,
     worker: &Worker<L, G>,
     group_commit: &mut GroupCommit<J, K>,
-) -> Ran
+) -> Result<Report, RunFault>
     requires calls { calls.now ≡ J.calls }
     requires empty { answers.items ≡ [] }
     requires room { length J.calls ≤ vec_capacity answers }
-    ensures ran { RanFits J.start J.calls J.keeps result }
-    ensures kept { RanKeeps K.has_kept J.before J.start.events J.keeps result group_commit.new }
+    ensures report { IfOk result (λ r. Reports J.start J.calls r.state r.answers.items) }
+    ensures kept { IfOk result (λ r. J.keeps ≡ true
+        → KeepsAll K.has_kept J.before J.start.events r.state.events group_commit.new) }
+    ensures stopped { IfErr result (StopFits J.start J.keeps) }
+    ensures unkept { IfErr result (IsFaultOf group_commit.new) }
 {
     match run_and_keep(rt, &mut pool_state, calls, worker, group_commit) {
-        Ok(()) => Ran::Done(pool_state.close(answers)),
-        Err(stopped) => Ran::Stopped(stopped.why, halted_by(pool_state, stopped)),
+        Ok(()) => Ok(pool_state.close(answers)),
+        Err(stopped) => {
+            let why = stopped.why;
+            Err(RunFault::NotKept(why, halted_by(pool_state, stopped)))
+        }
     }
 }
 

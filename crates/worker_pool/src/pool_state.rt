@@ -650,7 +650,8 @@ impl<J: RunSpec> PoolState<J> {
         ensures moves { MovesOn self.old.progress self.new.progress k result }
         ensures held { IsHeldBy result attempt.new.request }
         ensures sends { GoesOnSending self.new.state result attempt.old attempt.new }
-        ensures redone { IsSome attempt.old.request → IsKnownRedone self.old.state self.new.state (target attempt.old.wire.op).dc reply.now }
+        ensures redone { IsSome attempt.old.request
+            → IsKnownRedone self.old.state self.new.state (target attempt.old.wire.op).dc reply.now }
     {
         if attempt.is_held() && self.redone(attempt.dc(), reply).is_err() {
             return Next::Unanswered;

@@ -1,8 +1,11 @@
 // A run: its faults, and what it begins with.
 
-ghost use Rattle.std.specs.Prelude.{◌≡◌, ◌⊎◌, ◌<◌, ◌≤◌, ℕ, List, [], true, false, length, replicate, vec_capacity, IfOk, IfErr, MatchResult};
+ghost use Rattle.std.specs.Prelude.{◌≡◌, ◌⊎◌, ◌<◌, ◌≤◌, ℕ, List, [], true, false, length, replicate, vec_capacity};
+ghost use Rattle.std.specs.Prelude.{IfOk, IfErr, MatchResult};
 ghost use Rattle.tc_log.specs.declared.event.Event.{Event as EventValue};
 ghost use Rattle.frame_file.specs.Device.{LeavesOnly};
+ghost use Rattle.tc_core.specs.Core.{Core};
+ghost use Rattle.worker_pool.specs.Joining.Unfitting.{fault_of};
 ghost use Rattle.worker_pool.specs.Faults.{state_of, InRange, WorkersFit, TriesFit, FaultFits, IsUnkeptBy};
 ghost use Rattle.worker_pool.specs.Reports.{Reports};
 ghost use Rattle.worker_pool.specs.Journals.{HasKept, WasKept, IsLeftOfRun};
@@ -11,7 +14,7 @@ use crate::answer::{Answer, Progress};
 use crate::batch::Batch;
 use crate::group_commit::{GroupCommit, GroupCommitLock};
 use crate::handed::Opened;
-use crate::pool::{Gate, Pool, Ran, work_all};
+use crate::pool::{Gate, Pool, work_all};
 use crate::pool_state::PoolState;
 use crate::report::Report;
 use crate::run_spec::RunSpec;
@@ -87,43 +90,53 @@ fn are_tries(tries: u64) -> bool
     (1..=MOST_TRIES).contains(&tries)
 }
 
-// What a run takes with it.
+// Room for what becomes of each call.
 struct RunRoom {
-    state: TcState,
     answers: Vec<Answer>,
     progress: Vec<Progress>,
 }
 
-// The state, and room for what becomes of each call.
-fn room_for_run(
-    alloc: Global,
-    state: TcState,
-    calls: &[Call],
-    workers: usize,
-    tries: u64,
-) -> Result<RunRoom, RunFault>
-    ensures state { IfOk result (λ p. p.state ≡ state) }
+// Why no call of a run is begun.
+enum Unfit {
+    Workers,
+    Tries,
+    Memory,
+}
+
+impl Unfit {
+    // The fault that hands this state back.
+    fn fault(self, state: TcState) -> RunFault
+        ensures { result ≡ fault_of self state }
+    {
+        match self {
+            Unfit::Workers => RunFault::Workers(state),
+            Unfit::Tries => RunFault::Tries(state),
+            Unfit::Memory => RunFault::Memory(state),
+        }
+    }
+}
+
+// Room for a run of these calls, in whose results no state is: to hand one on by value in several enums takes as much code
+// as all else of a run.
+fn room_for_run(alloc: Global, calls: &[Call], workers: usize, tries: u64) -> Result<RunRoom, Unfit>
     ensures answers { IfOk result (λ p. (p.answers.items ≡ []) × (length calls.now ≤ vec_capacity p.answers)) }
     ensures progress { IfOk result (λ p. p.progress.items ≡ replicate (length calls.now) Progress.Waiting) }
-    ensures which { MatchResult result (λ _. InRange workers tries) (λ f. FaultFits state false workers tries f) }
+    ensures which { MatchResult result (λ _. InRange workers tries)
+        (λ unfit. (state : Core) → FaultFits state false workers tries (fault_of unfit state)) }
 {
     if !are_workers(workers) {
-        return Err(RunFault::Workers(state));
+        return Err(Unfit::Workers);
     }
     if !are_tries(tries) {
-        return Err(RunFault::Tries(state));
+        return Err(Unfit::Tries);
     }
     let Ok(answers) = room_for(alloc, calls.len()) else {
-        return Err(RunFault::Memory(state));
+        return Err(Unfit::Memory);
     };
     let Ok(progress) = all_waiting(alloc, calls.len()) else {
-        return Err(RunFault::Memory(state));
+        return Err(Unfit::Memory);
     };
-    Ok(RunRoom {
-        state,
-        answers,
-        progress,
-    })
+    Ok(RunRoom { answers, progress })
 }
 
 // The run under a name for its first state, its calls and what its journal had kept.
@@ -154,7 +167,8 @@ fn run_named<
     requires since { J.since ≡ K.moment journal }
     requires past { (t : ℕ) (left : List ℕ) → K.left_since journal t left → J.past t left }
     requires past_only { (t : ℕ) (left : List ℕ) → J.past t left → K.left_since journal t left }
-    requires leaves { (events more : List EventValue) (left : List ℕ) → K.leaves journal events more left → J.leaves events more left }
+    requires leaves { (events more : List EventValue) (left : List ℕ) → K.leaves journal events more left
+        → J.leaves events more left }
     requires book { opened.seen.book ≡ J.book }
     ensures report { IfOk result.1 (λ r. Reports J.start J.calls r.state r.answers.items) }
     ensures kept { J.keeps ≡ true → IfOk result.1 (λ r. HasKept K.has_kept J.before result.0 J.start.events r.state.events) }
@@ -166,15 +180,10 @@ fn run_named<
 {
     state.known();
     let (count, handed) = opened.named::<J>();
-    let room = match room_for_run(alloc, state, calls, workers, tries) {
+    let RunRoom { answers, progress } = match room_for_run(alloc, calls, workers, tries) {
         Ok(room) => room,
-        Err(fault) => return (journal, Err(fault)),
+        Err(unfit) => return (journal, Err(unfit.fault(state))),
     };
-    let RunRoom {
-        state,
-        answers,
-        progress,
-    } = room;
     let events = state.log().len();
     let batch = Batch::new(alloc);
     let keeps = journal.keeps();
@@ -185,11 +194,6 @@ fn run_named<
     let started = work_all(rt, alloc, &pool, calls, workers, link, gate);
     let (group_commit, ran) = pool.ran_by(rt, started, calls, answers, link, gate);
     let journal = group_commit.into_journal();
-    let ran = match ran {
-        Ran::Done(report) => Ok(report),
-        Ran::NoThread(state) => Err(RunFault::NoThread(state)),
-        Ran::Stopped(why, state) => Err(RunFault::NotKept(why, state)),
-    };
     (journal, ran)
 }
 

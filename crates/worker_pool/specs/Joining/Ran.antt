@@ -1,19 +1,19 @@
--- What came of a run, before it is told.
+-- What came of a run that was begun, once its workers have ended.
 use Rattle.std.specs.Prelude.{◌≡◌, List, Bool, true, ◌++◌, reverse, Some}
 use Rattle.tc_log.specs.declared.event.Event.{Event}
 use Rattle.tc_core.specs.Core.{Core}
-use Rattle.tc_core.specs.declared.state.Call.{Call}
-use Rattle.worker_pool.specs.declared.pool.Ran.{Ran}
-use Rattle.worker_pool.specs.declared.pool.Ran.TheVariants.{Done, NoThread, Stopped}
-use Rattle.worker_pool.specs.Reports.{Reports}
+use Rattle.worker_pool.specs.declared.running.RunFault.{RunFault}
+use Rattle.worker_pool.specs.declared.running.RunFault.TheVariants.{Workers, Tries, Memory, NoThread, NotKept}
 use Rattle.worker_pool.specs.Journals.{HasGoneOn}
 use Rattle.worker_pool.specs.Joining.Handing.{Shelf, HasAll, events_of}
 
--- it is reported; or no worker was started, and the state is as before; or it stopped, as a run with a journal may
-abbrev pub RanFits : Core → List Call → Bool → Ran → Type 0
-RanFits start calls keeps (Done report) = Reports start calls report.state report.answers.items
-RanFits start calls keeps (NoThread now) = now ≡ start
-RanFits start calls keeps (Stopped why now) = (keeps ≡ true) × HasGoneOn start now
+-- what stops it: no worker was started, and the state is as before; or something wasn't kept, as it may be with a journal
+abbrev pub StopFits : Core → Bool → RunFault → Type 0
+StopFits start keeps (Workers now) = ⊥
+StopFits start keeps (Tries now) = ⊥
+StopFits start keeps (Memory now) = ⊥
+StopFits start keeps (NoThread now) = now ≡ start
+StopFits start keeps (NotKept why now) = (keeps ≡ true) × HasGoneOn start now
 
 -- the journal has kept all that was handed over, and that is all that the log has behind the first one
 pub record KeepsAll {K : Type 0} (has : K → List Event → Type 0) (before : List Event → Type 0) (first now : List Event)
@@ -21,8 +21,10 @@ pub record KeepsAll {K : Type 0} (has : K → List Event → Type 0) (before : L
   pub log : now ≡ reverse (events_of shelf.handed) ++ first
   pub kept : HasAll has before shelf.journal shelf.handed
 
--- a run with a journal is reported once all is kept, and stops where something wasn't, for that reason
-abbrev pub RanKeeps : {K : Type 0} → (K → List Event → Type 0) → (List Event → Type 0) → List Event → Bool → Ran → Shelf K → Type 0
-RanKeeps has before first keeps (Done report) shelf = keeps ≡ true → KeepsAll has before first report.state.events shelf
-RanKeeps has before first keeps (NoThread now) shelf = Unit {0}
-RanKeeps has before first keeps (Stopped why now) shelf = shelf.fault ≡ Some why
+-- where something wasn't kept, that is what the journal failed by
+abbrev pub IsFaultOf : {K : Type 0} → Shelf K → RunFault → Type 0
+IsFaultOf shelf (Workers now) = Unit {0}
+IsFaultOf shelf (Tries now) = Unit {0}
+IsFaultOf shelf (Memory now) = Unit {0}
+IsFaultOf shelf (NoThread now) = Unit {0}
+IsFaultOf shelf (NotKept why now) = shelf.fault ≡ Some why
