@@ -14,6 +14,15 @@ Stops keeps workers tries Memory = Unit {0}
 Stops keeps workers tries (Unread fault) = ⊥
 Stops keeps workers tries (NotKept failure) = (keeps ≡ true) × TriesFit tries
 
+-- what stops them by these numbers alone
+abbrev pub IsOutOfRange : (workers tries : ℕ) → Stop → Type 0
+IsOutOfRange workers tries Tries = (tries ≡ 0) ⊎ (1000 < tries)
+IsOutOfRange workers tries Workers = TriesFit tries × ((workers ≡ 0) ⊎ (64 < workers))
+IsOutOfRange workers tries NoThread = ⊥
+IsOutOfRange workers tries Memory = ⊥
+IsOutOfRange workers tries (Unread fault) = ⊥
+IsOutOfRange workers tries (NotKept failure) = ⊥
+
 -- a run ends so without a line: for want of memory, or because something wasn't kept, where there is a journal
 abbrev pub IsUnkept : (keeps : Bool) → Stop → Type 0
 IsUnkept keeps Tries = ⊥

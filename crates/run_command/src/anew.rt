@@ -329,7 +329,8 @@ pub fn renew<F: Files<File = File>>(
     ensures unwanted { IfOk result (λ renewal. over ≡ None → renewal ≡ Unwanted) }
     ensures heeded { IfOk result (IsHeeded ground.new.journal over) }
     ensures needless { IfOk result (λ renewal. (IsOver ground.old.journal over → ⊥) → renewal ≡ Unwanted) }
-    ensures kept { KeepsLog ground.old.journal ground.old.state.events → OnOk result (KeepsLog ground.new.journal ground.new.state.events) }
+    ensures kept { KeepsLog ground.old.journal ground.old.state.events
+        → OnOk result (KeepsLog ground.new.journal ground.new.state.events) }
     ensures same { is_some ground.new.journal ≡ is_some ground.old.journal }
     ensures fault { IfErr result (IsUnkept (is_some ground.old.journal)) }
 {

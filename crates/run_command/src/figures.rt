@@ -3,7 +3,9 @@
 ghost use Rattle.std.specs.Prelude.{◌≡◌, ◌<◌, ◌++◌, IfOk, OnOk, count_by, string_bytes};
 ghost use Rattle.std.specs.Duration.{as_nanos};
 ghost use Rattle.run_command.specs.Figures.{is_committed, is_aborted, is_in_doubt, is_blocked};
-ghost use Rattle.run_command.specs.Figures.{answers_of, done_text, undone_text, procedure_line, name_at, procedure_lines, log_figures, figure_line, figure_lines, rate_line, all_but, latencies_of, lines_of, delay_lines, full_line, full_lines};
+ghost use Rattle.run_command.specs.Figures.{answers_of, done_text, undone_text, procedure_line, name_at, procedure_lines};
+ghost use Rattle.run_command.specs.Figures.{log_figures, figure_line, figure_lines, rate_line, all_but, latencies_of};
+ghost use Rattle.run_command.specs.Figures.{lines_of, delay_lines, full_line, full_lines};
 
 use data_component::dc::Dc;
 use run_metrics::Delays;

@@ -1,7 +1,8 @@
 //! The lines that say how a run goes on from a log's file, and why it doesn't.
 
 ghost use Rattle.std.specs.Prelude.{◌≡◌, ◌++◌, IfOk, OnOk, option_map, string_bytes};
-ghost use Rattle.run_command.specs.LogLines.{open_refusal, IsOtherRefusal, overfull_refusal, kind_word, kind_refusal, back_refusal, recovered_line, dropped_line, resumed_line, resumed_lines, back_lines};
+ghost use Rattle.run_command.specs.LogLines.{open_refusal, IsOtherRefusal, overfull_refusal, kind_word, kind_refusal, back_refusal};
+ghost use Rattle.run_command.specs.LogLines.{recovered_line, dropped_line, resumed_line, resumed_lines, back_lines};
 
 use coming_back::{ComeBackFault, Resumed};
 use disk_file::FileKind;

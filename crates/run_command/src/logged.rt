@@ -319,7 +319,8 @@ pub fn go_back(
     path: &str,
 ) -> Result<Recovery<RecoveredRun>, Stop>
     requires { All HasOnlyRows dcs.old }
-    ensures { IsOpened state.old opened → IfOk result (IsGoingBack state.old dcs.old (base_in opened.base) opened.log.events state.new dcs.new) }
+    ensures { IsOpened state.old opened
+        → IfOk result (IsGoingBack state.old dcs.old (base_in opened.base) opened.log.events state.new dcs.new) }
 {
     let OpenLog {
         mut journal,
@@ -392,7 +393,8 @@ fn renew_first<F: Files<File = File>>(
     lines: &mut String,
 ) -> Result<(), Stop>
     ensures renewed { OnOk result (IsRenewedFirst ground.old lines.old over ground.new lines.new) }
-    ensures kept { KeepsLog ground.old.journal ground.old.state.events → OnOk result (KeepsLog ground.new.journal ground.new.state.events) }
+    ensures kept { KeepsLog ground.old.journal ground.old.state.events
+        → OnOk result (KeepsLog ground.new.journal ground.new.state.events) }
 {
     match renew(rt, alloc, path, over, ground) {
         Ok(renewal) => Ok(write_renewal(alloc, renewal, &ground.state, lines)?),
@@ -488,8 +490,10 @@ fn run_behind<R: Files<File = File> + Clock + Threads + Wait + Sync>(
     options: RunOptions,
 ) -> Result<RunReport, Stop>
     requires { All HasOnlyRows loaded.dcs.items }
-    ensures { IfOk result (λ r. IsLoggedRun r.journal options.entry.checkpoints loaded.state loaded.dcs.items loaded.first.items loaded.calls.items
-        options.entry.manner.workers options.entry.manner.tries options.entry.manner.audit options.entry.manner.results r.report.status (string_bytes r.report.lines)) }
+    ensures { IfOk result (λ r. IsLoggedRun r.journal options.entry.checkpoints loaded.state loaded.dcs.items
+        loaded.first.items loaded.calls.items
+        options.entry.manner.workers options.entry.manner.tries options.entry.manner.audit options.entry.manner.results
+        r.report.status (string_bytes r.report.lines)) }
 {
     let mut loaded = loaded;
     if let Some(stop) = Stop::of_manner(options.manner) {
@@ -535,8 +539,8 @@ pub fn running_logged<R: Files<File = File> + Clock + Threads + Wait + Sync>(
     source: Source,
     options: RunOptions,
 ) -> Result<RunReport, Stop>
-    ensures { IfOk result (λ r. IsLogged r.journal options.entry.checkpoints options.entry.manner.workers options.entry.manner.tries options.entry.manner.audit options.entry.manner.results
-        (beginning_of command.Run source.entry) r.report.status (string_bytes r.report.lines)) }
+    ensures { IfOk result (λ r. IsLogged r.journal options.entry.checkpoints options.entry.manner.workers options.entry.manner.tries
+        options.entry.manner.audit options.entry.manner.results (beginning_of command.Run source.entry) r.report.status (string_bytes r.report.lines)) }
 {
     match load_source(alloc, Command::Run, source)? {
         Loading::Ready(loaded) => run_behind(rt, alloc, path, loaded, options),

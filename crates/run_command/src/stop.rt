@@ -2,7 +2,7 @@
 
 ghost use Rattle.std.specs.Prelude.{◌≡◌, Bool, IfSome, None};
 ghost use Rattle.worker_pool.specs.Faults.{InRange};
-ghost use Rattle.run_command.specs.Stops.{Stops};
+ghost use Rattle.run_command.specs.Stops.{Stops, IsOutOfRange};
 ghost use Rattle.run_command.specs.Joining.Stopping.{stop_of, unkept_of};
 
 use crate::answering::Manner;
@@ -45,6 +45,7 @@ impl Stop {
     /// Why calls that are to be run in this manner aren't begun, if that is so by its numbers.
     pub fn of_manner(manner: Manner) -> Option<Stop>
         ensures unfit { (keeps : Bool) → IfSome result (Stops keeps manner.workers manner.tries) }
+        ensures which { IfSome result (IsOutOfRange manner.workers manner.tries) }
         ensures fit { result ≡ None → InRange manner.workers manner.tries }
     {
         if !(1..=MOST_TRIES).contains(&manner.tries) {
