@@ -1,6 +1,7 @@
 -- A list each of whose elements is changed in its turn.
-use Rattle.std.proofs.Common.{◌≡◌, ℕ, zero, suc, ◌≤◌, List, [], ◌∷◌, length, map, Some, refl, sym, ◌∙◌, ap, arith}
-use Rattle.std.specs.Prelude.{slice_get, slice_set}
+use Rattle.std.proofs.Common.{◌≡◌, ℕ, zero, suc, ◌<◌, ◌≤◌, List, [], ◌∷◌, length, map, Some, refl, sym, ◌∙◌, ap, arith}
+use Rattle.std.specs.Prelude.{get_or, slice_get, slice_set}
+use Rattle.std.proofs.lemmas.Option.{slice_get_read}
 
 -- the first n are changed
 abbrev pub mapped : {X : Type 0} → (X → X) → List X → ℕ → List X
@@ -22,6 +23,12 @@ pub mapped_get : {X : Type 0} (f : X → X) (xs : List X) (n : ℕ) → slice_ge
 mapped_get f [] n = refl
 mapped_get f (x ∷ xs) zero = refl
 mapped_get f (x ∷ xs) (suc n) = mapped_get f xs n
+
+-- the same of what is read there
+pub mapped_read : {X : Type 0} (f : X → X) (xs ys : List X) (n : ℕ) (x : X) → ys ≡ mapped f xs n → n < length ys → x ≡ get_or ys n x
+    → slice_get xs n ≡ Some x
+mapped_read f xs ys n x is low read =
+    sym (mapped_get f xs n) ∙ (ap (λ zs. slice_get zs n) (sym is) ∙ slice_get_read ys (length ys) n x refl low read)
 
 pub mapped_next : {X : Type 0} (f : X → X) (xs : List X) (n : ℕ) (x : X) → slice_get xs n ≡ Some x → slice_set (mapped f xs n) n (f x) ≡ mapped f xs (suc n)
 mapped_next f [] n x at = absurd cc

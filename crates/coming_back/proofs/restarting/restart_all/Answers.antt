@@ -1,10 +1,9 @@
-use Rattle.std.proofs.Common.{◌≡◌, ℕ, ◌^◌, ◌≤◌, length, Some, List, refl, sym, ◌∙◌, ap, subst, arith, add-one}
+use Rattle.std.proofs.Common.{◌≡◌, ℕ, ◌^◌, ◌≤◌, Some, List, refl, sym, ◌∙◌, ap, subst, arith, add-one}
 use Rattle.std.specs.Prelude.{slice_get, slice_set}
-use Rattle.std.proofs.lemmas.Option.{slice_get_read}
 use Rattle.data_component.specs.Store.{Store, restarted}
 use Rattle.tc_core.proofs.KeptLemmas.{slice_get-index}
 use Rattle.coming_back.specs.Coming.{HasOnlyRows}
-use Rattle.coming_back.proofs.RenewLemmas.{mapped, mapped_none, mapped_all, mapped_get, mapped_next}
+use Rattle.coming_back.proofs.RenewLemmas.{mapped, mapped_none, mapped_all, mapped_read, mapped_next}
 use Rattle.coming_back.proofs.restarting.restart_all.Goals as goal
 
 pub loop-dc-init : goal.loop-dc-init
@@ -16,8 +15,7 @@ loop-dc-preserved c =
     let xs = c.args.dcs.now in
     let ys = c.loop-dc.dcs in
     let d : Store = c.dc-item.result in
-    let here : slice_get ys i ≡ Some d = slice_get_read ys (length ys) i d refl (omega arith) c.dc-item.is in
-    let was : slice_get xs i ≡ Some d = sym (mapped_get restarted xs i) ∙ (ap (λ (zs : List Store). slice_get zs i) (sym c.loop-dc.invariant) ∙ here) in
+    let was : slice_get xs i ≡ Some d = mapped_read restarted xs ys i d c.loop-dc.invariant (omega arith) c.dc-item.is in
     ap (slice_set ys i) (c.in-Ok.ensures.ok ∙ ap restarted (sym c.dc-item.is))
     ∙ (ap (λ (zs : List Store). slice_set zs i (restarted d)) c.loop-dc.invariant
     ∙ (mapped_next restarted xs i d was ∙ ap (mapped restarted xs) (sym (add-one i))))
@@ -28,8 +26,7 @@ unreachable-requires c =
     let xs = c.args.dcs.now in
     let ys = c.loop-dc.dcs in
     let d : Store = c.dc-item.result in
-    let here : slice_get ys i ≡ Some d = slice_get_read ys (length ys) i d refl (omega arith) c.dc-item.is in
-    let was : slice_get xs i ≡ Some d = sym (mapped_get restarted xs i) ∙ (ap (λ (zs : List Store). slice_get zs i) (sym c.loop-dc.invariant) ∙ here) in
+    let was : slice_get xs i ≡ Some d = mapped_read restarted xs ys i d c.loop-dc.invariant (omega arith) c.dc-item.is in
     let only : HasOnlyRows d = subst HasOnlyRows (slice_get-index xs i d d was) (c.requires i d c.loop-dc-test.true) in
     let zero : d.incarnation ≡ 0 = only.never in
     let spent : 2 ^ 62 ≤ d.incarnation = subst (λ (s : Store). 2 ^ 62 ≤ s.incarnation) (sym c.dc-item.is) (c.in-Err.ensures.spent.0 refl) in
