@@ -82,13 +82,32 @@ fn run_calls(alloc: Global, state: &mut TcState, dc: &mut Dc, ended: u64, rows: 
 
 fn audited(alloc: Global, state: &mut TcState, ended: u64, rows: u64, times: u64) -> Option<u64> {
     let ops = ended.checked_mul(4)?.checked_add(rows)?;
-    let mut dc = Dc::new(alloc, rows as usize, ops as usize).ok()?;
-    run_calls(alloc, state, &mut dc, ended, rows)?;
-    let mut dcs = Vec::with_capacity(alloc, 1).ok()?;
-    dcs.push(dc).ok()?;
+    let mut dcs = Vec::new(alloc);
+    let found = match push_called(alloc, state, (ended, rows), ops, &mut dcs) {
+        Some(()) => audited_again(alloc, state, dcs.as_slice(), times),
+        None => None,
+    };
+    drop(dcs);
+    found
+}
+
+// A data component that has performed the calls.
+fn push_called(
+    alloc: Global,
+    state: &mut TcState,
+    (ended, rows): (u64, u64),
+    ops: u64,
+    dcs: &mut Vec<Dc>,
+) -> Option<()> {
+    dcs.push(Dc::new(alloc, rows as usize, ops as usize).ok()?)
+        .ok()?;
+    run_calls(alloc, state, dcs.first_mut()?, ended, rows)
+}
+
+fn audited_again(alloc: Global, state: &TcState, dcs: &[Dc], times: u64) -> Option<u64> {
     let mut found: u64 = 0;
     for _ in 0..times {
-        let audited = audit(alloc, state.procs(), state.log(), dcs.as_slice()).ok()?;
+        let audited = audit(alloc, state.procs(), state.log(), dcs).ok()?;
         found = found.wrapping_add(audited.ended);
     }
     Some(found)

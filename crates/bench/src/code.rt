@@ -37,22 +37,48 @@ pub struct Done {
 /// many arguments there are, the arguments, the answer, a number that isn't read, and how many
 /// instructions are executed.
 pub fn read_workload(alloc: Global, line: &str) -> Option<Workload> {
-    let mut words = line.split('\t');
-    let _ = words.next()?;
-    let bytes = hex::decode(alloc, words.next()?).ok()?;
-    let count: usize = words.next()?.parse().ok()?;
-    let mut args = Vec::new(alloc);
-    for _ in 0..count {
-        args.push(words.next()?.parse().ok()?).ok()?;
+    let words = line.split('\t').collect::<Vec<&str>>(alloc).ok()?;
+    let workload = workload_of(alloc, words.as_slice());
+    drop(words);
+    workload
+}
+
+fn workload_of(alloc: Global, words: &[&str]) -> Option<Workload> {
+    let count: usize = words.get(2)?.parse().ok()?;
+    let behind = words.get(3..)?;
+    let answer = behind.get(count)?.parse().ok()?;
+    let executed = behind.get(count.checked_add(2)?)?.parse().ok()?;
+    let args = numbers_of(alloc, behind.get(..count)?)?;
+    match hex::decode(alloc, words.get(1).copied().unwrap_or_default()) {
+        Ok(bytes) => Some(Workload {
+            bytes,
+            args,
+            answer,
+            executed,
+        }),
+        Err(_) => {
+            drop(args);
+            None
+        }
     }
-    let answer = words.next()?.parse().ok()?;
-    let _ = words.next()?;
-    Some(Workload {
-        bytes,
-        args,
-        answer,
-        executed: words.next()?.parse().ok()?,
-    })
+}
+
+fn numbers_of(alloc: Global, words: &[&str]) -> Option<Vec<u64>> {
+    let mut numbers = Vec::new(alloc);
+    match push_numbers(words, &mut numbers) {
+        Some(()) => Some(numbers),
+        None => {
+            drop(numbers);
+            None
+        }
+    }
+}
+
+fn push_numbers(words: &[&str], numbers: &mut Vec<u64>) -> Option<()> {
+    for word in words {
+        numbers.push(word.parse().ok()?).ok()?;
+    }
+    Some(())
 }
 
 // Decodes and verifies code that takes so many arguments and declares these slots.
@@ -92,13 +118,29 @@ impl Workload {
             done.refused = done.refused.wrapping_add(1);
             return Some(());
         };
+        let repeated = match self.load_again(alloc, loads, done) {
+            Some(()) => self.run_again(&verified, runs, done),
+            None => None,
+        };
+        drop(verified);
+        repeated
+    }
+
+    fn load_again(&self, alloc: Global, loads: u64, done: &mut Done) -> Option<()> {
         for _ in 0..loads {
-            let loaded = load(alloc, self.bytes.as_slice(), args, &[])?;
+            let loaded = load(alloc, self.bytes.as_slice(), self.args.as_slice(), &[])?;
             done.slots = done.slots.wrapping_add(loaded.code().len() as u64);
+            drop(loaded);
         }
+        Some(())
+    }
+
+    fn run_again(&self, verified: &Verified, runs: u64, done: &mut Done) -> Option<()>
+        requires { length self.now.args.items ≡ verified.now.decl.args }
+    {
         let mut machine = Machine::blank();
         for _ in 0..runs {
-            let (answer, executed) = run(&mut machine, &verified, args)?;
+            let (answer, executed) = run(&mut machine, verified, self.args.as_slice())?;
             done.instructions = done.instructions.wrapping_add(u64::from(executed));
             if answer != self.answer || executed != self.executed {
                 done.wrong = done.wrong.wrapping_add(1);
@@ -115,21 +157,39 @@ const TWO: &[u8] = &[0xb7, 0, 0, 0, 0, 0, 0, 0, 0x95, 0, 0, 0, 0, 0, 0, 0];
 /// end, so many times. How many instructions were executed; `None` for more than 16 slots.
 pub fn repeat_starts(alloc: Global, slots: u64, times: u64) -> Option<u64> {
     let mut declared = Vec::new(alloc);
+    let verified = match push_slots(slots, &mut declared) {
+        Some(()) => load(alloc, TWO, &[], declared.as_slice()),
+        None => None,
+    };
+    drop(declared);
+    let verified = verified?;
+    let executed = start_again(&verified, times);
+    drop(verified);
+    executed
+}
+
+// So many slots, for reading.
+fn push_slots(slots: u64, declared: &mut Vec<Slot>) -> Option<()> {
     for key in 0..slots {
-        declared
-            .push(Slot {
-                mode: Mode::Read,
-                dc: 0,
-                table: 0,
-                key: Key::Fixed(key),
-            })
-            .ok()?;
+        let slot = Slot {
+            mode: Mode::Read,
+            dc: 0,
+            table: 0,
+            key: Key::Fixed(key),
+        };
+        declared.push(slot).ok()?;
     }
-    let verified = load(alloc, TWO, &[], declared.as_slice())?;
+    Some(())
+}
+
+// How many instructions are executed in so many runs.
+fn start_again(verified: &Verified, times: u64) -> Option<u64>
+    requires { 0 ≡ verified.now.decl.args }
+{
     let mut machine = Machine::blank();
     let mut executed: u64 = 0;
     for _ in 0..times {
-        let (_, count) = run(&mut machine, &verified, &[])?;
+        let (_, count) = run(&mut machine, verified, &[])?;
         executed = executed.wrapping_add(u64::from(count));
     }
     Some(executed)

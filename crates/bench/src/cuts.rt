@@ -54,7 +54,13 @@ fn run_part<R: Threads + Wait + Sync>(
     let (_, ran) = run(
         rt, alloc, state, calls, workers, TRIES, storm, &OpenGate, NoJournal,
     );
-    Some(left_by(ran.ok()?, ended, earlier))
+    match ran.ok() {
+        Some(report) => Some(left_by(report, ended, earlier)),
+        None => {
+            drop(earlier);
+            None
+        }
+    }
 }
 
 /// Runs the calls over the storm in parts, between two of which the log begins anew where no transaction is open and
@@ -73,7 +79,10 @@ pub fn run_parts<R: Threads + Wait + Sync>(
         earlier: String::new(alloc),
     };
     for part in calls.chunks(PART) {
-        cut(alloc, &mut behind, storm.dc_mut())?;
+        if cut(alloc, &mut behind, storm.dc_mut()).is_none() {
+            drop(behind);
+            return None;
+        }
         behind = run_part(rt, alloc, behind, part, workers, storm)?;
     }
     Some(behind)

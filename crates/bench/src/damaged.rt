@@ -1,5 +1,8 @@
 //! A log's file that is cut short, or of which one byte is another: what it is read as.
 
+ghost use Rattle.std.specs.Prelude.{◌≡◌, []};
+ghost use Rattle.frame_file.specs.Memory.{memory_bytes};
+
 use crate::log::asks;
 use access_slots::slot::Record;
 use frame_file::{FrameFault, Memory};
@@ -116,29 +119,71 @@ fn frame_ends(alloc: Global, bytes: &[u8]) -> Option<Vec<usize>> {
 // A file with so many events; where it was cut, they stand behind a checkpoint.
 fn whole_file(alloc: Global, events: u64, is_cut: bool) -> Option<Written> {
     let mut file = LogFile::new(Memory::new(alloc, Vec::new(alloc)));
+    let mut written = Written {
+        bytes: Vec::new(alloc),
+        rows: Vec::new(alloc),
+        ends: Vec::new(alloc),
+        is_cut,
+    };
+    let all = write_rows(alloc, events, &mut file, &mut written);
+    drop(file);
+    match all {
+        Some(()) => Some(written),
+        None => {
+            drop(written);
+            None
+        }
+    }
+}
+
+// Writes the file, and enters what it has.
+fn write_rows(
+    alloc: Global,
+    events: u64,
+    file: &mut LogFile<Memory>,
+    written: &mut Written,
+) -> Option<()>
+    requires { memory_bytes file.old.frames.device ≡ [] }
+{
     let Err(OpenFault::Empty) = file.open(alloc, &HEADER, &[]) else {
         return None;
     };
-    let mut rows = Vec::new(alloc);
-    if is_cut {
-        rows = checkpoint_row(alloc)?;
-        file.begin_anew(alloc, &HEADER, &BASE, &rows).ok()?;
+    if written.is_cut {
+        written.rows = checkpoint_row(alloc)?;
+        file.begin_anew(alloc, &HEADER, &BASE, &written.rows).ok()?;
     } else {
         file.create(alloc, &HEADER).ok()?;
     }
-    let behind = asks(alloc, events)?.print(alloc).ok()?;
-    for frame in behind.chunks(FRAME) {
+    append_asks(alloc, events, file, &mut written.rows)?;
+    written.bytes.extend_from_slice(file.device().bytes()).ok()?;
+    written.ends = frame_ends(alloc, &written.bytes)?;
+    Some(())
+}
+
+// Appends so many events in frames of 40, and their rows to the others.
+fn append_asks(
+    alloc: Global,
+    events: u64,
+    file: &mut LogFile<Memory>,
+    rows: &mut Vec<u8>,
+) -> Option<()> {
+    let before = rows.len();
+    asks_behind(alloc, events, rows)?;
+    for frame in rows.get(before..)?.chunks(FRAME) {
         file.append(alloc, &[], frame).ok()?;
     }
-    rows.extend_from_slice(&behind).ok()?;
-    let bytes = Vec::from_slice(alloc, file.device().bytes()).ok()?;
-    let ends = frame_ends(alloc, &bytes)?;
-    Some(Written {
-        bytes,
-        rows,
-        ends,
-        is_cut,
-    })
+    Some(())
+}
+
+// The rows of so many events behind these.
+fn asks_behind(alloc: Global, events: u64, rows: &mut Vec<u8>) -> Option<()> {
+    let log = asks(alloc, events)?;
+    let behind = log.print(alloc);
+    drop(log);
+    let behind = behind.ok()?;
+    let all = rows.extend_from_slice(&behind).ok();
+    drop(behind);
+    all
 }
 
 impl Written {

@@ -22,14 +22,19 @@ fn doubt_all(alloc: Global, state: &mut TcState, count: u64) -> Option<()> {
 /// times. How often it was.
 pub fn repeat(alloc: Global, doubted: u64, times: u64) -> Option<u64> {
     let mut state = state(alloc)?;
-    doubt_all(alloc, &mut state, doubted)?;
+    let blocked = blocked(alloc, &mut state, doubted, times);
+    drop(state);
+    blocked
+}
+
+fn blocked(alloc: Global, state: &mut TcState, doubted: u64, times: u64) -> Option<u64> {
+    doubt_all(alloc, state, doubted)?;
     let call = put(alloc, doubted / 2, 1)?;
     let mut blocked: u64 = 0;
     for _ in 0..times {
         blocked = blocked.wrapping_add(u64::from(state.blocked(&call)));
     }
     drop(call);
-    drop(state);
     Some(blocked)
 }
 
@@ -39,9 +44,10 @@ pub fn repeat_give_ups(alloc: Global, doubted: u64, times: u64) -> Option<u64> {
     let mut given_up: u64 = 0;
     for _ in 0..times {
         let mut state = state(alloc)?;
-        doubt_all(alloc, &mut state, doubted)?;
-        given_up = given_up.wrapping_add(doubted);
+        let all = doubt_all(alloc, &mut state, doubted);
         drop(state);
+        all?;
+        given_up = given_up.wrapping_add(doubted);
     }
     Some(given_up)
 }

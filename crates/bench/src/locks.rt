@@ -65,21 +65,30 @@ fn take_and_release(table: &mut LockTable, held: u64, set: &LockSet, times: u64)
     granted
 }
 
+// The same beside so many that take theirs first.
+fn take_beside(table: &mut LockTable, mode: Mode, held: u64, key: u64, times: u64) -> Option<u64>
+    requires { (t : ℕ) → HoldsNothing (held_by table.old) t }
+{
+    let granted = hold_all(table, mode, held)?;
+    let set = one_lock(mode, key)?;
+    Some(granted.wrapping_add(take_and_release(table, held, &set, times)))
+}
+
 /// So many transactions hold a lock each; one more takes its lock and gives it back so many times.
 /// How many locks were granted.
 pub fn repeat(alloc: Global, held: u64, times: u64) -> Option<u64> {
     let mut table = LockTable::new(alloc);
-    let granted = hold_all(&mut table, Mode::Write, held)?;
-    let set = one_lock(Mode::Write, held)?;
-    Some(granted.wrapping_add(take_and_release(&mut table, held, &set, times)))
+    let granted = take_beside(&mut table, Mode::Write, held, held, times);
+    drop(table);
+    granted
 }
 
 /// The same where all of them read one record.
 pub fn repeat_reads(alloc: Global, held: u64, times: u64) -> Option<u64> {
     let mut table = LockTable::new(alloc);
-    let granted = hold_all(&mut table, Mode::Read, held)?;
-    let set = one_lock(Mode::Read, 0)?;
-    Some(granted.wrapping_add(take_and_release(&mut table, held, &set, times)))
+    let granted = take_beside(&mut table, Mode::Read, held, 0, times);
+    drop(table);
+    granted
 }
 
 // The lock is refused so many times. The sum of the holders that were named.
@@ -91,18 +100,28 @@ fn refuse(table: &LockTable, set: &LockSet, times: u64) -> Option<u64> {
     Some(holders)
 }
 
+// A lock for writing is refused beside so many that take theirs first.
+fn refuse_beside(table: &mut LockTable, mode: Mode, held: u64, key: u64, times: u64) -> Option<u64>
+    requires { (t : ℕ) → HoldsNothing (held_by table.old) t }
+{
+    hold_all(table, mode, held)?;
+    refuse(table, &one_lock(Mode::Write, key)?, times)
+}
+
 /// So many transactions hold a lock each; the lock of one in their midst is refused so many times.
 /// The sum of the holders that were named.
 pub fn repeat_busy(alloc: Global, held: u64, times: u64) -> Option<u64> {
     let mut table = LockTable::new(alloc);
-    hold_all(&mut table, Mode::Write, held)?;
-    refuse(&table, &one_lock(Mode::Write, held / 2)?, times)
+    let holders = refuse_beside(&mut table, Mode::Write, held, held / 2, times);
+    drop(table);
+    holders
 }
 
 /// So many transactions read a record; a lock on it for writing is refused so many times. The sum of
 /// the holders that were named.
 pub fn repeat_read(alloc: Global, held: u64, times: u64) -> Option<u64> {
     let mut table = LockTable::new(alloc);
-    hold_all(&mut table, Mode::Read, held)?;
-    refuse(&table, &one_lock(Mode::Write, 0)?, times)
+    let holders = refuse_beside(&mut table, Mode::Read, held, 0, times);
+    drop(table);
+    holders
 }

@@ -114,6 +114,66 @@ fn weathered(alloc: Global, weathered: &Weathered) -> Option<String> {
     .ok()
 }
 
+// The count of a command that takes two numbers.
+fn count_of_two<R: Threads + Wait + Sync>(
+    rt: &R,
+    alloc: Global,
+    command: &str,
+    first: u64,
+    second: u64,
+) -> Option<u64> {
+    match command {
+        "starts" => code::repeat_starts(alloc, first, second),
+        "locks" => locks::repeat(alloc, first, second),
+        "busy" => locks::repeat_busy(alloc, first, second),
+        "reads" => locks::repeat_reads(alloc, first, second),
+        "read" => locks::repeat_read(alloc, first, second),
+        "give-ups" => doubts::repeat_give_ups(alloc, first, second),
+        "doubts" => doubts::repeat(alloc, first, second),
+        "numbers" => numbers::repeat(alloc, first, second),
+        "log" => log::repeat(alloc, first, second),
+        "check" => checks::repeat(alloc, first, second),
+        "calls" => calls::repeat(rt, alloc, first, second),
+        "rings" => calls::repeat_served(rt, alloc, first, second),
+        _ => None,
+    }
+}
+
+// The count of a command that takes three.
+fn count_of_three<R: Threads + Wait + Sync + Clock>(
+    rt: &R,
+    alloc: Global,
+    command: &str,
+    (first, second): (u64, u64),
+    third: u64,
+) -> Option<u64> {
+    match command {
+        "store" => store::repeat(alloc, first, second, third),
+        "steps" => steps::repeat(alloc, first, second, third),
+        "checkpoints" => store::repeat_checkpoints(alloc, first, second, third),
+        "redo" => redo::repeat(alloc, first, second, third),
+        "audits" => checks::repeat_audits(alloc, first, second, third),
+        "slow" => slow::repeat(rt, alloc, Calls::Puts, (first, second), third),
+        "slow-moves" => slow::repeat(rt, alloc, Calls::Moves, (first, second), third),
+        _ => None,
+    }
+}
+
+// What a command did that counts.
+fn count_line<R: Threads + Wait + Sync + Clock>(
+    rt: &R,
+    alloc: Global,
+    command: &str,
+    numbers: (u64, u64),
+    third: Option<u64>,
+) -> Option<String> {
+    let count = match third {
+        Some(third) => count_of_three(rt, alloc, command, numbers, third),
+        None => count_of_two(rt, alloc, command, numbers.0, numbers.1),
+    };
+    format!(in alloc; "count {}\n", count?).ok()
+}
+
 // What one command did.
 fn line_of<R: Threads + Wait + Sync + Clock>(
     rt: &R,
@@ -126,35 +186,16 @@ fn line_of<R: Threads + Wait + Sync + Clock>(
         return damaged::repeat(alloc, first);
     }
     let second = number(words, 3)?;
-    let count = match command {
-        "code" => return report(alloc, &run_all(alloc, text, first, second)?),
-        "audit" => return audits::repeat(alloc, text),
-        "starts" => code::repeat_starts(alloc, first, second)?,
-        "locks" => locks::repeat(alloc, first, second)?,
-        "busy" => locks::repeat_busy(alloc, first, second)?,
-        "reads" => locks::repeat_reads(alloc, first, second)?,
-        "read" => locks::repeat_read(alloc, first, second)?,
-        "give-ups" => doubts::repeat_give_ups(alloc, first, second)?,
-        "doubts" => doubts::repeat(alloc, first, second)?,
-        "numbers" => numbers::repeat(alloc, first, second)?,
-        "log" => log::repeat(alloc, first, second)?,
-        "store" => store::repeat(alloc, first, second, number(words, 4)?)?,
-        "steps" => steps::repeat(alloc, first, second, number(words, 4)?)?,
-        "checkpoints" => store::repeat_checkpoints(alloc, first, second, number(words, 4)?)?,
-        "redo" => redo::repeat(alloc, first, second, number(words, 4)?)?,
-        "check" => checks::repeat(alloc, first, second)?,
-        "audits" => checks::repeat_audits(alloc, first, second, number(words, 4)?)?,
-        "calls" => calls::repeat(rt, alloc, first, second)?,
-        "rings" => calls::repeat_served(rt, alloc, first, second)?,
-        "slow" => slow::repeat(rt, alloc, Calls::Puts, (first, second), number(words, 4)?)?,
-        "slow-moves" => slow::repeat(rt, alloc, Calls::Moves, (first, second), number(words, 4)?)?,
-        word => {
+    match (command, Weather::of_word(command)) {
+        ("code", _) => report(alloc, &run_all(alloc, text, first, second)?),
+        ("audit", _) => audits::repeat(alloc, text),
+        (_, Some(weather)) => {
             let calls = number(words, 4)?;
-            let ended = weather::repeat(rt, alloc, Weather::of_word(word)?, first, second, calls)?;
-            return weathered(alloc, &ended);
+            let ended = weather::repeat(rt, alloc, weather, first, second, calls)?;
+            weathered(alloc, &ended)
         }
-    };
-    format!(in alloc; "count {}\n", count).ok()
+        _ => count_line(rt, alloc, command, (first, second), number(words, 4)),
+    }
 }
 
 fn main(rt: HostRuntime) -> ExitCode {

@@ -1,11 +1,9 @@
 //! Calls over a link that takes a millisecond a wire.
 
-use crate::calls::{moved, puts, store};
-use crate::procedures::state;
+use crate::calls::{called_first, moved, puts, store};
 use access_slots::op::{News, Reply, Wire};
 use data_component::dc::Dc;
 use dc_links::{Link, Outstanding, bring_to};
-use journals::NoJournal;
 use std::alloc::{AllocError, Global};
 use std::collections::VecDeque;
 use std::sync::atomic::{AtomicU64, Ordering};
@@ -13,7 +11,6 @@ use std::sync::{Condvar, Mutex, Wait};
 use std::thread::Threads;
 use std::time::{Clock, Duration};
 use std::{mem, thread};
-use worker_pool::{OpenGate, run};
 
 // How long a reply takes, in microseconds.
 const DELAY: u64 = 1_000;
@@ -217,22 +214,8 @@ fn put_all<R: Threads + Wait + Sync>(
     link: &SlowLink,
 ) -> Option<u64> {
     let puts = puts(alloc, calls)?;
-    let state = state(alloc)?;
-    let workers = workers as usize;
-    let (_, ran) = run(
-        rt,
-        alloc,
-        state,
-        puts.as_slice(),
-        workers,
-        3,
-        link,
-        &OpenGate,
-        NoJournal,
-    );
-    let report = ran.ok()?;
-    let ended = report.ends() as u64;
-    drop(report);
+    let (ended, state) = called_first(rt, alloc, puts, workers as usize, link)?;
+    drop(state);
     Some(ended)
 }
 
@@ -269,17 +252,36 @@ pub fn repeat<R: Threads + Wait + Sync + Clock>(
     (workers, calls): (u64, u64),
     window: u64,
 ) -> Option<u64> {
-    let records = calls as usize;
-    let dc = match what {
-        Calls::Puts => Dc::new(alloc, records, records).ok()?,
-        Calls::Moves => store(alloc, calls)?,
-    };
     let link = SlowLink::new(alloc, workers as usize, window as usize).ok()?;
-    let link = &link;
-    let (_dc, ended) = thread::join(
+    let ended = match store_of(alloc, what, calls) {
+        Some(dc) => called_beside(rt, alloc, what, (workers, calls), &link, dc),
+        None => None,
+    };
+    drop(link);
+    ended
+}
+
+// A data component with room for the calls.
+fn store_of(alloc: Global, what: Calls, calls: u64) -> Option<Dc> {
+    match what {
+        Calls::Puts => Dc::new(alloc, calls as usize, calls as usize).ok(),
+        Calls::Moves => store(alloc, calls),
+    }
+}
+
+fn called_beside<R: Threads + Wait + Sync + Clock>(
+    rt: &R,
+    alloc: Global,
+    what: Calls,
+    (workers, calls): (u64, u64),
+    link: &SlowLink,
+    dc: Dc,
+) -> Option<u64> {
+    let (dc, ended) = thread::join(
         rt,
         move || link.serve(rt, dc),
         move || called_and_closed(rt, alloc, what, (workers, calls), link),
     );
+    drop(dc);
     ended
 }

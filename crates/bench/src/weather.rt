@@ -1,9 +1,8 @@
 //! Calls over a storm, how they ended, and what an audit says behind it.
 
 use crate::audits::audit_line;
-use crate::calls::{RECORDS, moves, puts, store};
+use crate::calls::{RECORDS, called_first, moves, puts, store};
 use crate::cuts::run_parts;
-use crate::procedures::state;
 use crate::storm::{Calm, Regular, Storm};
 use data_component::dc::Dc;
 use journals::NoJournal;
@@ -126,35 +125,25 @@ fn recover(state: &mut TcState, dc: &mut Dc) -> Option<()> {
 }
 
 // The line of the audit behind a last restart and its redo.
-fn audited(alloc: Global, state: &mut TcState, dc: Dc) -> Option<String> {
-    let mut dc = dc;
-    if recover(state, &mut dc).is_none() {
-        return String::from_str(alloc, "audit of what isn't redone\n").ok();
+fn audited(alloc: Global, state: &mut TcState, mut dc: Dc) -> Option<String> {
+    match recover(state, &mut dc) {
+        Some(()) => audited_beside(alloc, state, dc),
+        None => {
+            drop(dc);
+            String::from_str(alloc, "audit of what isn't redone\n").ok()
+        }
     }
-    let mut dcs = Vec::with_capacity(alloc, 1).ok()?;
-    dcs.push(dc).ok()?;
-    audit_line(alloc, state.procs(), state.log(), dcs.as_slice())
 }
 
-// A thousand records are put over the link that loses nothing.
-fn put_all<R: Threads + Wait + Sync>(
-    rt: &R,
-    alloc: Global,
-    puts: &[Call],
-    storm: &Storm,
-) -> Option<Report> {
-    let (_, ran) = run(
-        rt,
-        alloc,
-        state(alloc)?,
-        puts,
-        1,
-        1,
-        &Calm { storm },
-        &OpenGate,
-        NoJournal,
-    );
-    ran.ok()
+// The line of an audit beside this data component.
+fn audited_beside(alloc: Global, state: &TcState, dc: Dc) -> Option<String> {
+    let mut dcs = Vec::new(alloc);
+    let line = match dcs.push(dc) {
+        Ok(()) => audit_line(alloc, state.procs(), state.log(), dcs.as_slice()),
+        Err(_) => None,
+    };
+    drop(dcs);
+    line
 }
 
 /// What a report leaves, behind calls that ended so and logs that were cut.
@@ -236,12 +225,34 @@ pub fn repeat<R: Threads + Wait + Sync>(
     workers: u64,
     calls: u64,
 ) -> Option<Weathered> {
-    let puts = puts(alloc, RECORDS)?;
-    let moves = moves(alloc, calls)?;
     let mut storm = Storm::new(store(alloc, calls)?, seed);
-    let before = put_all(rt, alloc, puts.as_slice(), &storm)?;
+    let behind = put_and_moved(rt, alloc, weather, (workers, calls), &mut storm);
+    let dc = storm.into_dc();
+    match behind {
+        Some(behind) => outcome(alloc, behind, dc, weather),
+        None => {
+            drop(dc);
+            None
+        }
+    }
+}
+
+// What the puts and the moves leave.
+fn put_and_moved<R: Threads + Wait + Sync>(
+    rt: &R,
+    alloc: Global,
+    weather: Weather,
+    (workers, calls): (u64, u64),
+    storm: &mut Storm,
+) -> Option<Behind> {
+    let puts = puts(alloc, RECORDS)?;
+    let (_, state) = called_first(rt, alloc, puts, 1, &Calm { storm })?;
+    let Some(moves) = moves(alloc, calls) else {
+        drop(state);
+        return None;
+    };
     let workers = workers as usize;
-    let moves = moves.as_slice();
-    let behind = run_all(rt, alloc, before.state, moves, workers, &mut storm, weather)?;
-    outcome(alloc, behind, storm.into_dc(), weather)
+    let behind = run_all(rt, alloc, state, moves.as_slice(), workers, storm, weather);
+    drop(moves);
+    behind
 }
