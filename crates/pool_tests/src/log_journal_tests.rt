@@ -203,7 +203,7 @@ fn a_log_that_begins_anew_is_read_with_its_records(rt: HostRuntime) {
     drop(journal);
     let Restored { base: found, log } = restored;
     let found = found.expect(&rt, "no records");
-    assert_eq!(&rt; found.as_slice(), &base[..]);
+    is_same(&rt, found.as_slice(), &base[..]);
     assert!(&rt;
         matches!(
             log.at(0),
@@ -213,23 +213,24 @@ fn a_log_that_begins_anew_is_read_with_its_records(rt: HostRuntime) {
             })
         )
     );
-    assert_eq!(&rt; log.len(), 1);
+    is_same(&rt, log.len(), 1);
     // What a crash leaves of it may be written over, and says no log; its first 8 bytes are those of any log's file.
     for end in 0..bytes.len() {
         let torn = bytes.get(..end).unwrap_or_default();
-        assert_eq!(&rt; may_be_left(alloc, &HEADER, torn), Ok(true));
+        is_same(&rt, may_be_left(alloc, &HEADER, torn), Ok(true));
         let file = memory(&rt, alloc, torn);
         let refused = LogJournal::open(alloc, file, HEADER, torn).is_err();
-        assert_eq!(&rt; refused, end > 8);
+        is_same(&rt, refused, end > 8);
     }
     let other = Header {
         procedures: 7,
         ..HEADER
     };
-    assert_eq!(&rt; may_be_left(alloc, &other, bytes.as_slice()), Ok(false));
-    assert_eq!(&rt;
+    is_same(&rt, may_be_left(alloc, &other, bytes.as_slice()), Ok(false));
+    is_same(
+        &rt,
         may_be_left(alloc, &HEADER, b"a text of somebody else"),
-        Ok(false)
+        Ok(false),
     );
 }
 

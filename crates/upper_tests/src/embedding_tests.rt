@@ -1,3 +1,4 @@
+use crate::checks::is_same;
 use embedding::call;
 use embedding::codes::{
     BEGUN, DONE, DOWN, NO_PLACE, NO_SUCH_CALL, NO_TXN, NOT_OVER, NOTHING_OPEN, STRANGER,
@@ -84,10 +85,10 @@ fn a_call_is_asked_and_answered(rt: HostRuntime) -> Result<(), Fail> {
     let ended = ended(&mut engine);
     let shown = shown(&mut engine);
     engine::finish(engine);
-    assert_eq!(rt; (asked, question), (true, (1, 1, 7)));
-    assert_eq!(rt; answered, [STRANGER, DONE, NOTHING_OPEN]);
-    assert_eq!(rt; ended, [(DONE, 3), (DONE, 1)]);
-    assert_eq!(rt; shown, (DONE, 96, [2, 1, 7]));
+    is_same(&rt, (asked, question), (true, (1, 1, 7)));
+    is_same(&rt, answered, [STRANGER, DONE, NOTHING_OPEN]);
+    is_same(&rt, ended, [(DONE, 3), (DONE, 1)]);
+    is_same(&rt, shown, (DONE, 96, [2, 1, 7]));
     Ok(())
 }
 
@@ -119,9 +120,9 @@ fn a_result_is_told(rt: HostRuntime) -> Result<(), Fail> {
     let ended = ended(&mut engine);
     let (late, _, _) = result(&mut engine, 0);
     engine::finish(engine);
-    assert_eq!(rt; (asked, early, answered), (true, NOT_OVER, DONE));
-    assert_eq!(rt; (held, further), ((DONE, 1, 5), NO_PLACE));
-    assert_eq!(rt; (ended, late), ([(DONE, 3), (DONE, 1)], NO_TXN));
+    is_same(&rt, (asked, early, answered), (true, NOT_OVER, DONE));
+    is_same(&rt, (held, further), ((DONE, 1, 5), NO_PLACE));
+    is_same(&rt, (ended, late), ([(DONE, 3), (DONE, 1)], NO_TXN));
     Ok(())
 }
 
@@ -151,8 +152,8 @@ fn a_restart_is_told(rt: HostRuntime) -> Result<(), Fail> {
     let told = told(&mut engine);
     let sent = sent(&mut engine);
     engine::finish(engine);
-    assert_eq!(rt; (asked, told), (true, [DONE, DOWN]));
-    assert_eq!(rt; sent, ([DONE, 2, DONE, 2, DONE], 1));
+    is_same(&rt, (asked, told), (true, [DONE, DOWN]));
+    is_same(&rt, sent, ([DONE, 2, DONE, 2, DONE], 1));
     Ok(())
 }
 
@@ -212,10 +213,10 @@ fn a_log_is_recovered(rt: HostRuntime) -> Result<(), Fail> {
     let ended = answered(&mut other);
     engine::finish(engine);
     engine::finish(other);
-    assert_eq!(rt; (asked, recovered), (true, [DONE, BEGUN]));
-    assert_eq!(rt; found, (DONE, 2, 1, 7));
-    assert_eq!(rt; retaken, ([NOTHING_OPEN, DONE, NO_PLACE], 1));
-    assert_eq!(rt; ended, [STRANGER, DONE, NOTHING_OPEN]);
+    is_same(&rt, (asked, recovered), (true, [DONE, BEGUN]));
+    is_same(&rt, found, (DONE, 2, 1, 7));
+    is_same(&rt, retaken, ([NOTHING_OPEN, DONE, NO_PLACE], 1));
+    is_same(&rt, ended, [STRANGER, DONE, NOTHING_OPEN]);
     Ok(())
 }
 
@@ -250,8 +251,8 @@ fn locks_and_waits_are_seen(rt: HostRuntime) -> Result<(), Fail> {
     let waiting = waiting_for(&mut engine, 0);
     let (elsewhere, _, _, _) = waiting_for(&mut engine, 1);
     engine::finish(engine);
-    assert_eq!(rt; (asked, lock, further), (true, (DONE, 1, 7), NO_PLACE));
-    assert_eq!(rt; (waiting, elsewhere), ((DONE, 1, 1, 1), NO_PLACE));
+    is_same(&rt, (asked, lock, further), (true, (DONE, 1, 7), NO_PLACE));
+    is_same(&rt, (waiting, elsewhere), ((DONE, 1, 1, 1), NO_PLACE));
     Ok(())
 }
 
@@ -288,8 +289,8 @@ fn a_program_is_resumed(rt: HostRuntime) -> Result<(), Fail> {
     let resumed = resumed(&mut engine);
     let none = made(&mut engine, call::ADMIT);
     engine::finish(engine);
-    assert_eq!(rt; (verified, run), (true, (DONE, 1, 7)));
-    assert_eq!(rt; resumed, ([STRANGER, DONE, NOTHING_OPEN], (0, 0, 4)));
-    assert_eq!(rt; none, NO_SUCH_CALL);
+    is_same(&rt, (verified, run), (true, (DONE, 1, 7)));
+    is_same(&rt, resumed, ([STRANGER, DONE, NOTHING_OPEN], (0, 0, 4)));
+    is_same(&rt, none, NO_SUCH_CALL);
     Ok(())
 }

@@ -1,3 +1,4 @@
+use crate::checks::is_same;
 use crate::embedding_tests::{asked, found, loaded, made, told};
 use access_slots::op::News;
 use embedding::call;
@@ -108,7 +109,7 @@ fn file(rt: &impl Abort, alloc: Global) -> Vec<u8> {
     let mut engine = engine::made(alloc);
     let lengths = written(&mut engine, &mut file);
     engine::finish(engine);
-    assert_eq!(rt; (lengths, file.len()), (LENGTHS, ENDS[3]));
+    is_same(rt, (lengths, file.len()), (LENGTHS, ENDS[3]));
     file
 }
 
@@ -133,11 +134,12 @@ fn a_file_is_read(rt: HostRuntime) -> Result<(), Fail> {
         incarnation: 1,
         mark: 0,
     });
-    assert_eq!(rt;
+    is_same(
+        &rt,
         (header.dcs, header.procedures, log.len(), unfinished),
-        (1, 1, 4, 0)
+        (1, 1, 4, 0),
     );
-    assert_eq!(rt; notes.as_slice(), [restarted].as_slice());
+    is_same(&rt, notes.as_slice(), [restarted].as_slice());
     drop(log);
     Ok(())
 }
@@ -166,10 +168,10 @@ fn each_truncation_comes_back(rt: HostRuntime) {
             536..=599 => (536, 4),
             _ => (600, 4),
         };
-        assert_eq!(rt;
-            back(alloc, front),
-            (true, (DONE, whole, 0), events),
-            "at {len}"
+        is_same(
+            &rt,
+            (len, back(alloc, front)),
+            (len, (true, (DONE, whole, 0), events)),
         );
     }
 }
@@ -192,7 +194,11 @@ fn each_changed_byte_is_seen(rt: HostRuntime) -> Result<(), Fail> {
             536..=543 => ((FILE_DAMAGED, 0, 3), 0),
             _ => ((DONE, 536, 0), 4),
         };
-        assert_eq!(rt; back(alloc, &changed), (true, seen.0, seen.1), "at {place}");
+        is_same(
+            &rt,
+            (place, back(alloc, &changed)),
+            (place, (true, seen.0, seen.1)),
+        );
     }
     Ok(())
 }
@@ -223,8 +229,8 @@ fn a_torn_file_goes_on(rt: HostRuntime) -> Result<(), Fail> {
     let mut engine = engine::made(alloc);
     let went_on = goes_on(&mut engine, &mut torn);
     engine::finish(engine);
-    assert_eq!(rt; went_on, [Ok(0), Ok(224)]);
-    assert_eq!(rt; torn.as_slice(), file.get(..536).unwrap_or_default());
+    is_same(&rt, went_on, [Ok(0), Ok(224)]);
+    is_same(&rt, torn.as_slice(), file.get(..536).unwrap_or_default());
     Ok(())
 }
 
@@ -252,14 +258,14 @@ fn a_log_begins_anew(rt: HostRuntime) -> Result<(), Fail> {
     let mut engine = engine::made(alloc);
     let anew = begun_anew(&mut engine, &mut file);
     engine::finish(engine);
-    assert_eq!(rt; anew, [Ok(224), Ok(224)]);
+    is_same(&rt, anew, [Ok(224), Ok(224)]);
     let Ok(stored) = read_file(alloc, &file) else {
         panic!(rt; "refused");
     };
-    assert_eq!(rt; (stored.log.len(), stored.unfinished), (3, 0));
+    is_same(&rt, (stored.log.len(), stored.unfinished), (3, 0));
     assert!(rt; matches!(&stored.base, Some(base) if base.is_empty()));
     drop(stored);
-    assert_eq!(rt; back(alloc, &file), (true, (DONE, 448, 0), 3));
+    is_same(&rt, back(alloc, &file), (true, (DONE, 448, 0), 3));
     Ok(())
 }
 
@@ -287,10 +293,15 @@ fn others(alloc: Global, file: &[u8]) -> [(u32, u64, u64); 2] {
 fn other_files_are_refused(rt: HostRuntime) {
     let alloc = rt.alloc();
     let file = file(&rt, alloc);
-    assert_eq!(rt; others(alloc, &file), [(BEGUN, 0, 0), (FILE_OTHERS, 0, 0)]);
-    assert_eq!(rt;
+    is_same(
+        &rt,
+        others(alloc, &file),
+        [(BEGUN, 0, 0), (FILE_OTHERS, 0, 0)],
+    );
+    is_same(
+        &rt,
         back(alloc, b"# A page\n".as_slice()),
-        (true, (FILE_FOREIGN, 0, 0), 0)
+        (true, (FILE_FOREIGN, 0, 0), 0),
     );
 }
 
@@ -315,8 +326,9 @@ fn a_late_procedure_has_no_file(rt: HostRuntime) {
     let prepared = made(&mut engine, call::FILE_BYTES);
     let count = engine.frame.count;
     engine::finish(engine);
-    assert_eq!(rt;
+    is_same(
+        &rt,
         (late, prepared, count),
-        ([DONE, DONE, FILE_OTHERS], DONE, 256)
+        ([DONE, DONE, FILE_OTHERS], DONE, 256),
     );
 }

@@ -10,6 +10,8 @@
 #![tactic(auto)]
 
 #[cfg(test)]
+mod checks;
+#[cfg(test)]
 mod embedding_tests;
 #[cfg(test)]
 mod engine_log_tests;

@@ -1,13 +1,13 @@
 ghost use Rattle.std.specs.Prelude.{◌≡◌, [], IfOk};
 ghost use Rattle.frame_file.specs.Memory.{memory_bytes};
 
+use crate::checks::is_same;
 use access_slots::op::{News, Op, Said};
 use access_slots::slot::Record;
 use frame_file::{FrameFault, FrameFile, Memory};
 use log_file::{BaseRow, Header, LogFile, Note, OpenFault, Recovered, Stored, read_file};
 use std::alloc::{AllocError, Global};
 use std::process::Abort;
-use std::test::Fail;
 use tc_core::SiteNote;
 use tc_log::event::{Args, Event, Outcome};
 use tc_log::log::Log;
@@ -70,7 +70,7 @@ fn is_begun(rt: &impl Abort, alloc: Global, file: &mut LogFile<Memory>)
     requires { memory_bytes file.old.frames.device ≡ [] }
 {
     let empty = matches!(file.open(alloc, &HEADER, &[]), Err(OpenFault::Empty));
-    assert_eq!(rt; (empty, file.create(alloc, &HEADER)), (true, Ok(())));
+    is_same(rt, (empty, file.create(alloc, &HEADER)), (true, Ok(())));
 }
 
 // How each of three syncs went.
@@ -98,19 +98,17 @@ fn three_syncs(
 }
 
 // A file of three syncs.
-fn written(rt: &impl Abort, alloc: Global) -> Result<Vec<u8>, Fail> {
-    let mut file = over(alloc, &[])?;
+fn written(rt: &impl Abort, alloc: Global) -> Vec<u8> {
+    let mut file = over(alloc, &[]).expect(rt, "no file");
     is_begun(rt, alloc, &mut file);
-    let synced = match log(alloc) {
-        Ok(log) => three_syncs(alloc, &mut file, &log),
-        Err(fault) => Err(fault),
-    };
-    let bytes = Vec::from_slice(alloc, file.device().bytes());
+    let log = log(alloc).expect(rt, "no log");
+    let synced = three_syncs(alloc, &mut file, &log).expect(rt, "no rows");
+    drop(log);
+    let bytes = Vec::from_slice(alloc, file.device().bytes()).expect(rt, "no bytes");
     drop(file);
-    assert_eq!(rt; synced?, [Ok(()), Ok(()), Ok(())]);
-    let bytes = bytes?;
-    assert_eq!(rt; bytes.len(), ENDS[3]);
-    Ok(bytes)
+    is_same(rt, synced, [Ok(()), Ok(()), Ok(())]);
+    is_same(rt, bytes.len(), ENDS[3]);
+    bytes
 }
 
 // What these bytes are read as.
@@ -119,51 +117,61 @@ fn opened(alloc: Global, bytes: &[u8], header: &Header) -> Result<Recovered, Ope
 }
 
 // They are read as the log with so many bytes of rows, and with this note of the second data component.
-fn says(
-    rt: &impl Abort,
-    alloc: Global,
-    bytes: &[u8],
-    len: usize,
-    note: SiteNote,
-) -> Result<(), Fail> {
+fn says(rt: &impl Abort, alloc: Global, bytes: &[u8], len: usize, note: SiteNote) {
     let Ok(found) = opened(alloc, bytes, &HEADER) else {
         panic!(rt; "refused");
     };
-    assert_eq!(rt; found.notes.as_slice(), [SiteNote::Untold, note].as_slice());
-    let again = found.log.print(alloc);
+    is_same(
+        rt,
+        found.notes.as_slice(),
+        [SiteNote::Untold, note].as_slice(),
+    );
+    let again = found.log.print(alloc).expect(rt, "no rows");
     drop(found);
-    let rows = log(alloc)?.print(alloc)?;
-    assert_eq!(rt; again?.as_slice(), rows.get(..len).unwrap_or_default());
-    Ok(())
+    let rows = rows(rt, alloc, 0);
+    is_same(rt, again.as_slice(), rows.get(..len).unwrap_or_default());
+}
+
+// The rows of its log from this event on.
+fn rows(rt: &impl Abort, alloc: Global, first: usize) -> Vec<u8> {
+    let log = log(alloc).expect(rt, "no log");
+    let rows = log.print_from(alloc, first).expect(rt, "no rows");
+    drop(log);
+    rows
 }
 
 #[test]
-fn each_truncation_is_a_beginning(rt: HostRuntime) -> Result<(), Fail> {
+fn each_truncation_is_a_beginning(rt: HostRuntime) {
     let alloc = rt.alloc();
-    let bytes = written(&rt, alloc)?;
+    let bytes = written(&rt, alloc);
     for len in 0..=bytes.len() {
         let front = bytes.get(..len).unwrap_or_default();
         match len {
             0..=87 => assert!(rt; matches!(opened(alloc, front, &HEADER), Err(OpenFault::Empty))),
-            88..=343 => says(&rt, alloc, front, 0, SiteNote::Untold)?,
-            344..=407 => says(&rt, alloc, front, 192, RESTARTED)?,
-            408..=631 => says(&rt, alloc, front, 192, SiteNote::Up(3))?,
-            _ => says(&rt, alloc, front, 384, SiteNote::Up(3))?,
+            88..=343 => says(&rt, alloc, front, 0, SiteNote::Untold),
+            344..=407 => says(&rt, alloc, front, 192, RESTARTED),
+            408..=631 => says(&rt, alloc, front, 192, SiteNote::Up(3)),
+            _ => says(&rt, alloc, front, 384, SiteNote::Up(3)),
         }
     }
-    Ok(())
+}
+
+// The bytes with another one in this place.
+fn changed(rt: &impl Abort, alloc: Global, bytes: &[u8], place: usize) -> Vec<u8> {
+    let mut changed = Vec::from_slice(alloc, bytes).expect(rt, "no bytes");
+    if let Some(byte) = changed.get_mut(place) {
+        *byte ^= 0x10;
+    }
+    changed
 }
 
 // A changed byte of the last frame leaves an end that isn't whole; before it, its frame is damaged.
 #[test]
-fn each_changed_byte_is_found(rt: HostRuntime) -> Result<(), Fail> {
+fn each_changed_byte_is_found(rt: HostRuntime) {
     let alloc = rt.alloc();
-    let bytes = written(&rt, alloc)?;
+    let bytes = written(&rt, alloc);
     for place in 0..bytes.len() {
-        let mut changed = Vec::from_slice(alloc, &bytes)?;
-        if let Some(byte) = changed.get_mut(place) {
-            *byte ^= 0x10;
-        }
+        let changed = changed(&rt, alloc, &bytes, place);
         let frame = match place {
             0..=87 => 0,
             88..=343 => 1,
@@ -171,38 +179,30 @@ fn each_changed_byte_is_found(rt: HostRuntime) -> Result<(), Fail> {
             // The number of a frame that is torn can't be another one.
             408..=415 => 3,
             _ => {
-                says(&rt, alloc, &changed, 192, SiteNote::Up(3))?;
+                says(&rt, alloc, &changed, 192, SiteNote::Up(3));
                 continue;
             }
         };
         let found = opened(alloc, &changed, &HEADER).err();
         let damaged = OpenFault::Frames(FrameFault::Damaged(frame));
-        assert_eq!(rt; found, Some(damaged), "at {place}");
+        is_same(&rt, (place, found), (place, Some(damaged)));
     }
-    Ok(())
 }
 
 // A file with these bytes is refused, and left as it was.
-fn is_left(
-    rt: &impl Abort,
-    alloc: Global,
-    bytes: &[u8],
-    header: &Header,
-    wanted: OpenFault,
-) -> Result<(), Fail> {
-    let mut file = over(alloc, bytes)?;
+fn is_left(rt: &impl Abort, alloc: Global, bytes: &[u8], header: &Header, wanted: OpenFault) {
+    let mut file = over(alloc, bytes).expect(rt, "no file");
     let fault = file.open(alloc, header, bytes).err();
-    let is_same = file.device().bytes() == bytes && file.device().dropped().is_empty();
+    let is_as_it_was = file.device().bytes() == bytes && file.device().dropped().is_empty();
     drop(file);
-    assert_eq!(rt; (fault, is_same), (Some(wanted), true));
-    Ok(())
+    is_same(rt, (fault, is_as_it_was), (Some(wanted), true));
 }
 
 // What no run of this header wrote isn't begun, nor cut.
 #[test]
-fn other_files_are_left(rt: HostRuntime) -> Result<(), Fail> {
+fn other_files_are_left(rt: HostRuntime) {
     let alloc = rt.alloc();
-    let bytes = written(&rt, alloc)?;
+    let bytes = written(&rt, alloc);
     let other = Header {
         procedures: HEADER.procedures + 1,
         ..HEADER
@@ -213,44 +213,53 @@ fn other_files_are_left(rt: HostRuntime) -> Result<(), Fail> {
         b"# A page\n".as_slice(),
         &HEADER,
         OpenFault::Other,
-    )?;
-    is_left(&rt, alloc, &[0; 40], &HEADER, OpenFault::Other)?;
+    );
+    is_left(&rt, alloc, &[0; 40], &HEADER, OpenFault::Other);
     for len in 80..=bytes.len() {
         let front = bytes.get(..len).unwrap_or_default();
-        is_left(&rt, alloc, front, &other, OpenFault::Other)?;
+        is_left(&rt, alloc, front, &other, OpenFault::Other);
     }
-    let mut twice = Vec::from_slice(alloc, &bytes)?;
-    twice.extend_from_slice(bytes.get(..88).unwrap_or_default())?;
-    let damaged = OpenFault::Frames(FrameFault::Damaged(4));
-    is_left(&rt, alloc, &twice, &HEADER, damaged)?;
-    twice.truncate(bytes.len());
-    twice.extend_from_slice(b"more".as_slice())?;
-    is_left(&rt, alloc, &twice, &HEADER, damaged)
+    let header = bytes.get(..88).unwrap_or_default();
+    for more in [header, b"more".as_slice()] {
+        let longer = longer(&rt, alloc, &bytes, more);
+        let damaged = OpenFault::Frames(FrameFault::Damaged(4));
+        is_left(&rt, alloc, &longer, &HEADER, damaged);
+    }
+}
+
+// More bytes behind these.
+fn longer(rt: &impl Abort, alloc: Global, bytes: &[u8], more: &[u8]) -> Vec<u8> {
+    let mut longer = Vec::from_slice(alloc, bytes).expect(rt, "no bytes");
+    longer.extend_from_slice(more).expect(rt, "no room");
+    longer
 }
 
 // What is appended to a file that was cut short stands behind what was read.
 #[test]
-fn it_goes_on(rt: HostRuntime) -> Result<(), Fail> {
+fn it_goes_on(rt: HostRuntime) {
     let alloc = rt.alloc();
-    let bytes = written(&rt, alloc)?;
+    let bytes = written(&rt, alloc);
     let front = bytes.get(..631).unwrap_or_default();
-    let mut file = over(alloc, front)?;
+    let mut file = over(alloc, front).expect(&rt, "no file");
     let Ok(found) = file.open(alloc, &HEADER, front) else {
         panic!(rt; "refused");
     };
-    let rest = log(alloc)?.print_from(alloc, found.log.len())?;
-    assert_eq!(rt; file.append(alloc, &[], &rest), Ok(()));
-    assert_eq!(rt; file.device().bytes(), bytes.as_slice());
-    Ok(())
+    let rest = rows(&rt, alloc, found.log.len());
+    drop(found);
+    is_same(&rt, file.append(alloc, &[], &rest), Ok(()));
+    is_same(&rt, file.device().bytes(), bytes.as_slice());
+    drop(file);
 }
 
 // The fault of a file with this batch behind the header.
-fn fault(alloc: Global, notes: &[Note], rows: &[u8]) -> Result<Option<OpenFault>, Fail> {
-    let mut file = over(alloc, &[])?;
+fn fault(rt: &impl Abort, alloc: Global, notes: &[Note], rows: &[u8]) -> Option<OpenFault> {
+    let mut file = over(alloc, &[]).expect(rt, "no file");
     let _empty = file.open(alloc, &HEADER, &[]);
     let _created = file.create(alloc, &HEADER);
     let _appended = file.append(alloc, notes, rows);
-    Ok(opened(alloc, file.device().bytes(), &HEADER).err())
+    let fault = opened(alloc, file.device().bytes(), &HEADER).err();
+    drop(file);
+    fault
 }
 
 // The file is another transaction component's than this header's.
@@ -259,8 +268,8 @@ fn is_another(rt: &impl Abort, alloc: Global, bytes: &[u8], header: &Header) {
 }
 
 #[test]
-fn what_is_another_log(rt: HostRuntime) -> Result<(), Fail> {
-    let bytes = written(&rt, rt.alloc())?;
+fn what_is_another_log(rt: HostRuntime) {
+    let bytes = written(&rt, rt.alloc());
     for other in [
         Header { dcs: 3, ..HEADER },
         Header {
@@ -274,23 +283,15 @@ fn what_is_another_log(rt: HostRuntime) -> Result<(), Fail> {
     ] {
         is_another(&rt, rt.alloc(), &bytes, &other);
     }
-    Ok(())
 }
 
 // A file with this batch behind the header has this fault.
-fn has_fault(
-    rt: &impl Abort,
-    alloc: Global,
-    notes: &[Note],
-    rows: &[u8],
-    want: Option<OpenFault>,
-) -> Result<(), Fail> {
-    assert_eq!(rt; fault(alloc, notes, rows)?, want);
-    Ok(())
+fn has_fault(rt: &impl Abort, alloc: Global, notes: &[Note], rows: &[u8], want: Option<OpenFault>) {
+    is_same(rt, fault(rt, alloc, notes, rows), want);
 }
 
 #[test]
-fn what_is_no_log(rt: HostRuntime) -> Result<(), Fail> {
+fn what_is_no_log(rt: HostRuntime) {
     let alloc = rt.alloc();
     let there = Note {
         dc: 1,
@@ -298,19 +299,18 @@ fn what_is_no_log(rt: HostRuntime) -> Result<(), Fail> {
     };
     let beyond = Note { dc: 2, ..there };
     let no_batch = Some(OpenFault::NoBatch(1));
-    has_fault(&rt, alloc, &[there], &[], None)?;
-    has_fault(&rt, alloc, &[there, beyond], &[], no_batch)?;
-    has_fault(&rt, alloc, &[], &[5; 95], no_batch)?;
-    let mut rows = log(alloc)?.print(alloc)?;
-    rows.extend_from_slice(&[0; 96])?;
-    has_fault(&rt, alloc, &[], &rows, Some(OpenFault::Row(4)))
+    has_fault(&rt, alloc, &[there], &[], None);
+    has_fault(&rt, alloc, &[there, beyond], &[], no_batch);
+    has_fault(&rt, alloc, &[], &[5; 95], no_batch);
+    let rows = longer(&rt, alloc, &rows(&rt, alloc, 0), &[0; 96]);
+    has_fault(&rt, alloc, &[], &rows, Some(OpenFault::Row(4)));
 }
 
 // Whoever wrote it, and with an end that a crash left.
 #[test]
-fn it_is_read_by_itself(rt: HostRuntime) -> Result<(), Fail> {
+fn it_is_read_by_itself(rt: HostRuntime) {
     let alloc = rt.alloc();
-    let bytes = written(&rt, alloc)?;
+    let bytes = written(&rt, alloc);
     let Ok(found) = read_file(alloc, bytes.get(..631).unwrap_or_default()) else {
         panic!(rt; "refused");
     };
@@ -321,15 +321,16 @@ fn it_is_read_by_itself(rt: HostRuntime) -> Result<(), Fail> {
         notes,
         unfinished,
     } = found;
-    assert_eq!(rt;
+    is_same(
+        &rt,
         (header, base.is_none(), log.len(), unfinished),
-        (HEADER, true, 2, 223)
+        (HEADER, true, 2, 223),
     );
-    assert_eq!(rt;
+    is_same(
+        &rt,
         notes.as_slice(),
-        [SiteNote::Untold, SiteNote::Up(3)].as_slice()
+        [SiteNote::Untold, SiteNote::Up(3)].as_slice(),
     );
-    Ok(())
 }
 
 // The fault of a file with this payload alone.
@@ -341,29 +342,32 @@ fn fault_of(alloc: Global, payload: &[u8]) -> Option<OpenFault> {
 }
 
 #[test]
-fn what_is_nobodys_log(rt: HostRuntime) -> Result<(), Fail> {
+fn what_is_nobodys_log(rt: HostRuntime) {
     let alloc = rt.alloc();
-    let bytes = written(&rt, alloc)?;
-    let mut header = Vec::from_slice(alloc, bytes.get(24..88).unwrap_or_default())?;
-    assert_eq!(rt; fault_of(alloc, &header), None);
-    assert_eq!(rt;
+    let bytes = written(&rt, alloc);
+    let header = bytes.get(24..88).unwrap_or_default();
+    let mut header = Vec::from_slice(alloc, header).expect(&rt, "no bytes");
+    is_same(&rt, fault_of(alloc, &header), None);
+    is_same(
+        &rt,
         fault_of(alloc, header.get(..63).unwrap_or_default()),
-        Some(OpenFault::Other)
+        Some(OpenFault::Other),
     );
     if let Some(byte) = header.get_mut(8) {
         *byte = 2;
     }
-    assert_eq!(rt; fault_of(alloc, &header), Some(OpenFault::Other));
-    assert_eq!(rt; read_file(alloc, &[]).err(), Some(OpenFault::Empty));
-    assert_eq!(rt;
+    is_same(&rt, fault_of(alloc, &header), Some(OpenFault::Other));
+    is_same(&rt, read_file(alloc, &[]).err(), Some(OpenFault::Empty));
+    is_same(
+        &rt,
         read_file(alloc, bytes.get(..87).unwrap_or_default()).err(),
-        Some(OpenFault::Empty)
+        Some(OpenFault::Empty),
     );
-    assert_eq!(rt;
+    is_same(
+        &rt,
         read_file(alloc, b"# A page\n".as_slice()).err(),
-        Some(OpenFault::Other)
+        Some(OpenFault::Other),
     );
-    Ok(())
 }
 
 const BASE: [BaseRow; 2] = [
@@ -386,24 +390,32 @@ const BASE: [BaseRow; 2] = [
 ];
 
 // A file of a log that begins anew, behind this base.
-fn begun_anew(alloc: Global, base: &[BaseRow]) -> Result<Vec<u8>, Fail> {
+fn begun_anew(rt: &impl Abort, alloc: Global, base: &[BaseRow]) -> Vec<u8> {
+    let row = checkpoint_row(rt, alloc);
+    let mut file = over(alloc, &[]).expect(rt, "no file");
+    let _empty = file.open(alloc, &HEADER, &[]);
+    let _begun = file.begin_anew(alloc, &HEADER, base, &row);
+    let bytes = Vec::from_slice(alloc, file.device().bytes()).expect(rt, "no bytes");
+    drop(file);
+    bytes
+}
+
+fn checkpoint_row(rt: &impl Abort, alloc: Global) -> Vec<u8> {
     let mut log = Log::new(alloc);
-    log.reserve(1)?;
+    log.reserve(1).expect(rt, "no room");
     log.push(Event::Checkpoint {
         admitted: 5,
         given: 9,
     });
-    let row = log.print(alloc)?;
-    let mut file = over(alloc, &[])?;
-    let _empty = file.open(alloc, &HEADER, &[]);
-    let _begun = file.begin_anew(alloc, &HEADER, base, &row);
-    Ok(Vec::from_slice(alloc, file.device().bytes())?)
+    let row = log.print(alloc).expect(rt, "no rows");
+    drop(log);
+    row
 }
 
 #[test]
-fn a_log_begins_anew(rt: HostRuntime) -> Result<(), Fail> {
+fn a_log_begins_anew(rt: HostRuntime) {
     let alloc = rt.alloc();
-    let bytes = begun_anew(alloc, &BASE)?;
+    let bytes = begun_anew(&rt, alloc, &BASE);
     let Ok(
         Recovered {
             base,
@@ -417,15 +429,14 @@ fn a_log_begins_anew(rt: HostRuntime) -> Result<(), Fail> {
     let Some(base) = base else {
         panic!(rt; "no base");
     };
-    assert_eq!(rt; (bytes.len(), base.as_slice()), (408, BASE.as_slice()));
-    Ok(())
+    is_same(&rt, (bytes.len(), base.as_slice()), (408, BASE.as_slice()));
 }
 
 // Cut short, it says no log, but where it has fewer bytes than tell the two layouts apart.
 #[test]
-fn a_beginning_anew_is_whole(rt: HostRuntime) -> Result<(), Fail> {
+fn a_beginning_anew_is_whole(rt: HostRuntime) {
     let alloc = rt.alloc();
-    let bytes = begun_anew(alloc, &BASE)?;
+    let bytes = begun_anew(&rt, alloc, &BASE);
     for len in 0..bytes.len() {
         let front = bytes.get(..len).unwrap_or_default();
         let fault = match len {
@@ -434,50 +445,45 @@ fn a_beginning_anew_is_whole(rt: HostRuntime) -> Result<(), Fail> {
             96..=279 => OpenFault::NoBase(1),
             _ => OpenFault::NoBase(2),
         };
-        assert_eq!(rt;
-            opened(alloc, front, &HEADER).err(),
-            Some(fault),
-            "at {len}"
+        is_same(
+            &rt,
+            (len, opened(alloc, front, &HEADER).err()),
+            (len, Some(fault)),
         );
     }
-    Ok(())
 }
 
 #[test]
-fn each_changed_byte_of_a_base_is_found(rt: HostRuntime) -> Result<(), Fail> {
+fn each_changed_byte_of_a_base_is_found(rt: HostRuntime) {
     let alloc = rt.alloc();
-    let bytes = begun_anew(alloc, &BASE)?;
+    let bytes = begun_anew(&rt, alloc, &BASE);
     for place in 0..bytes.len() {
-        let mut changed = Vec::from_slice(alloc, &bytes)?;
-        if let Some(byte) = changed.get_mut(place) {
-            *byte ^= 0x10;
-        }
+        let changed = changed(&rt, alloc, &bytes, place);
         let fault = match place {
             0..=95 => OpenFault::Frames(FrameFault::Damaged(0)),
             96..=279 => OpenFault::Frames(FrameFault::Damaged(1)),
             280..=287 => OpenFault::Frames(FrameFault::Damaged(2)),
             _ => OpenFault::NoBase(2),
         };
-        assert_eq!(rt;
-            opened(alloc, &changed, &HEADER).err(),
-            Some(fault),
-            "at {place}"
+        is_same(
+            &rt,
+            (place, opened(alloc, &changed, &HEADER).err()),
+            (place, Some(fault)),
         );
     }
-    Ok(())
 }
 
 // Records that don't rise are no base.
 #[test]
-fn a_base_rises(rt: HostRuntime) -> Result<(), Fail> {
+fn a_base_rises(rt: HostRuntime) {
     let alloc = rt.alloc();
     let [first, second] = BASE;
     for base in [[second, first], [first, first]] {
-        let bytes = begun_anew(alloc, &base)?;
-        assert_eq!(rt;
+        let bytes = begun_anew(&rt, alloc, &base);
+        is_same(
+            &rt,
             opened(alloc, &bytes, &HEADER).err(),
-            Some(OpenFault::NoBase(1))
+            Some(OpenFault::NoBase(1)),
         );
     }
-    Ok(())
 }

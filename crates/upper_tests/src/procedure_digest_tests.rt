@@ -1,3 +1,4 @@
+use crate::checks::is_same;
 use access_slots::decl::Decl;
 use access_slots::slot::{Key, Mode, Slot};
 use bpf_encoding::decode::decode;
@@ -79,8 +80,8 @@ fn of(procedures: u64, digest: [u8; 32]) -> Option<Header> {
 fn digests_of_another_program(rt: HostRuntime) -> Result<(), Fail> {
     let alloc = rt.alloc();
     let second = procedure(alloc, 0, &[], &FIVE);
-    assert_eq!(rt; header(alloc, [None, None]), of(0, NONE));
-    assert_eq!(rt; header(alloc, [first(alloc), None]), of(1, ONE));
-    assert_eq!(rt; header(alloc, [first(alloc), second]), of(2, TWO));
+    is_same(&rt, header(alloc, [None, None]), of(0, NONE));
+    is_same(&rt, header(alloc, [first(alloc), None]), of(1, ONE));
+    is_same(&rt, header(alloc, [first(alloc), second]), of(2, TWO));
     Ok(())
 }
