@@ -3,7 +3,8 @@
 ghost use Rattle.std.specs.Prelude.{◌≡◌, ◌≢◌, ◌++◌, IfNone, IfOk, IfSome, Some, codes, decimal, reverse, slice_get, string_bytes};
 ghost use Rattle.tc_log.specs.Entered.{seen};
 ghost use Rattle.log_file.specs.Found.{base_in};
-ghost use Rattle.partitioned_run.specs.Belonging.{other_line, partition_of_event, AreEventsOf, AreRowsOf, IsBaseOf, IsBaseOfOther, IsEventOf, IsEventOfOther, IsLogOfPartition, IsLogOfOther, IsRowOfOther};
+ghost use Rattle.partitioned_run.specs.Belonging.{other_line, partition_of_event, AreEventsOf, AreRowsOf, IsBaseOf, IsBaseOfOther};
+ghost use Rattle.partitioned_run.specs.Belonging.{IsEventOf, IsEventOfOther, IsLogOfPartition, IsLogOfOther, IsRowOfOther};
 
 use crate::dividing::partition_of_procedure;
 use log_file::BaseRow;

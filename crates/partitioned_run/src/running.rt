@@ -158,7 +158,8 @@ fn run_accepted<R: Files<File = File> + Clock + Threads + Wait + Sync>(
 ) -> Result<Output, Fault>
     requires verified { first_unverified (option_map (λ file. file.now) object) accepted.script.procedures.items ≡ None }
     requires state { accepted.state ≡ begun (contents_of accepted.script) }
-    ensures { InRange manner.workers manner.tries → IfOk result (λ r. IsContentsRun (is_some log.entry) (contents_of accepted.entry.script)
+    ensures { InRange manner.workers manner.tries
+        → IfOk result (λ r. IsContentsRun (is_some log.entry) (contents_of accepted.entry.script)
         manner.workers manner.tries manner.audit r.status (string_bytes r.lines)) }
 {
     let Accepted { script, state } = accepted;
