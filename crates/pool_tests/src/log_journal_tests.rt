@@ -159,19 +159,6 @@ fn row(key: u64) -> BaseRow {
     (record, [5; 64])
 }
 
-// A log that is this event alone.
-fn log_of(rt: &impl Abort, alloc: Global, event: Event) -> Log {
-    let mut log = Log::new(alloc);
-    log.reserve(1).expect(rt, "no room");
-    log.push(event);
-    log
-}
-
-const CHECKPOINT: Event = Event::Checkpoint {
-    admitted: 3,
-    given: 9,
-};
-
 // The bytes of a file in which the log begins anew with these records, if it does.
 fn begun_anew(rt: &impl Abort, alloc: Global, base: &[BaseRow], log: &Log) -> Option<Vec<u8>> {
     let (journal, kept) = LogJournal::begin_anew(
@@ -185,62 +172,88 @@ fn begun_anew(rt: &impl Abort, alloc: Global, base: &[BaseRow], log: &Log) -> Op
     kept.is_ok().then_some(bytes)
 }
 
+// A log that is a checkpoint alone.
+fn checkpoint(rt: &impl Abort, alloc: Global) -> Log {
+    let mut log = Log::new(alloc);
+    log.reserve(1).expect(rt, "no room");
+    log.push(Event::Checkpoint {
+        admitted: 3,
+        given: 9,
+    });
+    log
+}
+
+// These bytes are read as a log that begins anew with these records and the checkpoint.
+fn says(rt: &impl Abort, alloc: Global, bytes: &[u8], base: &[BaseRow]) {
+    let opened = LogJournal::open(alloc, memory(rt, alloc, bytes), HEADER, bytes);
+    let Ok((journal, Restored { base: found, log })) = opened else {
+        panic!(rt; "not read");
+    };
+    drop(journal);
+    let found = found.expect(rt, "no records");
+    is_same(rt, found.as_slice(), base);
+    drop(found);
+    let is_checkpoint = matches!(
+        log.at(0),
+        Some(Entry::Checkpoint {
+            admitted: 3,
+            given: 9
+        })
+    );
+    is_same(rt, (is_checkpoint, log.len()), (true, 1));
+    drop(log);
+}
+
+// What a crash leaves of these bytes may be written over, and says no log; its first 8 bytes are those of any log's file.
+fn is_left(rt: &impl Abort, alloc: Global, bytes: &[u8]) {
+    for end in 0..bytes.len() {
+        let torn = bytes.get(..end).unwrap_or_default();
+        let file = memory(rt, alloc, torn);
+        let refused = LogJournal::open(alloc, file, HEADER, torn).is_err();
+        let left = may_be_left(alloc, &HEADER, torn);
+        is_same(rt, (end, left, refused), (end, Ok(true), end > 8));
+    }
+}
+
 #[test]
 fn a_log_that_begins_anew_is_read_with_its_records(rt: HostRuntime) {
     let alloc = rt.alloc();
     let base = [row(4), row(7)];
-    let log = log_of(&rt, alloc, CHECKPOINT);
+    let log = checkpoint(&rt, alloc);
     let bytes = begun_anew(&rt, alloc, &base, &log).expect(&rt, "not begun");
     drop(log);
-    let Ok((journal, restored)) = LogJournal::open(
-        alloc,
-        memory(&rt, alloc, bytes.as_slice()),
-        HEADER,
-        bytes.as_slice(),
-    ) else {
-        panic!(&rt; "not read");
-    };
-    drop(journal);
-    let Restored { base: found, log } = restored;
-    let found = found.expect(&rt, "no records");
-    is_same(&rt, found.as_slice(), &base[..]);
-    assert!(&rt;
-        matches!(
-            log.at(0),
-            Some(Entry::Checkpoint {
-                admitted: 3,
-                given: 9
-            })
-        )
-    );
-    is_same(&rt, log.len(), 1);
-    // What a crash leaves of it may be written over, and says no log; its first 8 bytes are those of any log's file.
-    for end in 0..bytes.len() {
-        let torn = bytes.get(..end).unwrap_or_default();
-        is_same(&rt, may_be_left(alloc, &HEADER, torn), Ok(true));
-        let file = memory(&rt, alloc, torn);
-        let refused = LogJournal::open(alloc, file, HEADER, torn).is_err();
-        is_same(&rt, refused, end > 8);
-    }
+    says(&rt, alloc, bytes.as_slice(), &base);
+    is_left(&rt, alloc, bytes.as_slice());
     let other = Header {
         procedures: 7,
         ..HEADER
     };
-    is_same(&rt, may_be_left(alloc, &other, bytes.as_slice()), Ok(false));
-    is_same(
-        &rt,
+    let found = [
+        may_be_left(alloc, &other, bytes.as_slice()),
         may_be_left(alloc, &HEADER, b"a text of somebody else"),
-        Ok(false),
-    );
+    ];
+    drop(bytes);
+    is_same(&rt, found, [Ok(false), Ok(false)]);
+}
+
+// Whether a log begins anew with these records.
+fn begins(rt: &impl Abort, alloc: Global, base: &[BaseRow], log: Log) -> bool {
+    let bytes = begun_anew(rt, alloc, base, &log);
+    drop(log);
+    let begins = bytes.is_some();
+    drop(bytes);
+    begins
 }
 
 #[test]
 fn no_log_begins_anew_with_records_that_do_not_rise_or_without_a_checkpoint(rt: HostRuntime) {
     let alloc = rt.alloc();
-    let log = log_of(&rt, alloc, CHECKPOINT);
-    assert!(&rt; begun_anew(&rt, alloc, &[row(7), row(4)], &log).is_none());
-    assert!(&rt; begun_anew(&rt, alloc, &[row(4), row(4)], &log).is_none());
-    drop(log);
-    let log = Log::new(alloc);
-    assert!(&rt; begun_anew(&rt, alloc, &[], &log).is_none());
+    for base in [[row(7), row(4)], [row(4), row(4)]] {
+        is_same(
+            &rt,
+            begins(&rt, alloc, &base, checkpoint(&rt, alloc)),
+            false,
+        );
+    }
+    is_same(&rt, begins(&rt, alloc, &[], Log::new(alloc)), false);
 }
