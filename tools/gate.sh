@@ -31,6 +31,7 @@ took "rt ci: $last"
 passed=${last%% passed*}
 # What is tried behind it, a command a line; the longest stand first.
 tries() {
+    tools/edits_by_function.py --list | sort -r | sed 's#^#tools/edits_by_function.py #'
     if [ -z "$missing" ]; then
         echo "tools/archive.py && make -s -C c_interface check"
         echo "then tools/try_dist.py"
@@ -63,7 +64,6 @@ END
     for example in examples/*/; do
         echo "tools/example.sh $example"
     done
-    tools/edits_by_function.py --list | sed 's#^#tools/edits_by_function.py #'
 }
 missing=
 for tool in make cc ar; do
