@@ -3,16 +3,20 @@
 
   tools/edits_by_function.py --list          those edits, as CRATE/EDIT
   tools/edits_by_function.py CRATE/EDIT ..   tries these
+  tools/edits_by_function.py --follow FILE   tries all, each as soon as FILE, which gets what `rt ci` prints, says that its
+                                             crate is proved or kept; the last line is `N passed, M failed`
 
 Such an edit has a line `of: FUNCTION ..`, names as a check prints them, or their ends. The functions and what they call are
 checked alone, over the libraries that `rt ci` built here. An edit of must-fail/ costs its crate a second proof.
 """
+import concurrent.futures
 import os
 import re
 import shutil
 import subprocess
 import sys
 import tempfile
+import time
 
 from built import TOP, uses
 from unproved import Failed, kit
@@ -20,6 +24,8 @@ from unproved import Failed, kit
 MORE = "more-edits"
 OF = re.compile(r"(?m)^of: (.+)$")
 ENDED = re.compile(r"(?m)^only=(\d+) proved=(\d+)$")
+# What `rt ci` says of a crate whose library is there.
+PROVED = re.compile(r"(?m)^rt: (\w+) (?:proved$|is kept:)")
 # What the front end says of a text that the prover never reads.
 UNREAD = re.compile(r"\berror\[[\w-]+\]")
 
@@ -65,7 +71,7 @@ def command(crate, functions, kit_at):
     words = [f"{kit_at}/bin/rattle", "check", "--crate-name", crate, "--extern", f"std={kit_at}/rlibs/std.rlib"]
     for name in known[crate]:
         words += ["--extern", f"{name}={built(name) if name in known else f'{kit_at}/rlibs'}/{name}.rlib"]
-    for place in [f"{kit_at}/rlibs", *(built(name) for name in known if os.path.isdir(built(name)))]:
+    for place in [f"{kit_at}/rlibs", *(built(name) for name in known[crate] if name in known)]:
         words += ["-L", f"dependency={place}"]
     words += ["--antt-project", f"{kit_at}/rattle/logic/antt-project.json", "--logic-built", f"{kit_at}/logic_built"]
     words += ["--links", f"{crate}=", "--jobs", "1"]
@@ -90,21 +96,49 @@ def tried(edit, kit_at):
     return f"of {ended[1]} functions {ended[2]} are proved with it"
 
 
+def is_refused(edit):
+    """Tries it, and prints what came of it."""
+    began = time.monotonic()
+    try:
+        print(f"{edit}: refused: {tried(edit, kit())}, {time.monotonic() - began:.0f} s", flush=True)
+        return True
+    except (Failed, OSError) as error:
+        print(f"{edit}: not refused: {error}", flush=True)
+        return False
+
+
+def follow(path):
+    """Tries all edits, as many at once as there are processors, each once the file says that its crate is proved.
+
+    Where whoever called it is gone, it begins no other.
+    """
+    left, begun, caller = edits(), [], os.getppid()
+    with concurrent.futures.ThreadPoolExecutor(os.cpu_count()) as pool:
+        while left or not all(it.done() for it in begun):
+            if os.getppid() != caller:
+                pool.shutdown(cancel_futures=True)
+                raise Failed("whoever called this is gone")
+            with open(path, encoding="utf-8", errors="replace") as file:
+                proved = set(PROVED.findall(file.read()))
+            begun += [pool.submit(is_refused, it) for it in left if it.split("/")[0] in proved]
+            left = [it for it in left if it.split("/")[0] not in proved]
+            time.sleep(1)
+    return [it.result() for it in begun]
+
+
 def main():
     if sys.argv[1:] == ["--list"]:
         print("\n".join(edits()))
         return 0
-    if len(sys.argv) < 2 or sys.argv[1].startswith("-"):
+    if len(sys.argv) == 3 and sys.argv[1] == "--follow":
+        refused = follow(sys.argv[2])
+        print(f"{sum(refused)} passed, {len(refused) - sum(refused)} failed")
+    elif len(sys.argv) > 1 and not sys.argv[1].startswith("-"):
+        refused = [is_refused(edit) for edit in sys.argv[1:]]
+    else:
         print(__doc__, file=sys.stderr)
         return 2
-    failed = 0
-    for edit in sys.argv[1:]:
-        try:
-            print(f"{edit}: refused: {tried(edit, kit())}", flush=True)
-        except (Failed, OSError) as error:
-            failed += 1
-            print(f"{edit}: not refused: {error}", flush=True)
-    return 1 if failed else 0
+    return 0 if all(refused) else 1
 
 
 if __name__ == "__main__":

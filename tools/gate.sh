@@ -22,6 +22,10 @@ side_by_side() {
     [ "$processors" -ge 1 ] && echo "$processors" || echo 1
 }
 
+# The edits by function are tried meanwhile, each once its crate is proved, by processors that nothing else wants.
+: > "$ended/said"
+nice -n 19 tools/edits_by_function.py --follow "$ended/said" > "$ended/edits" 2>&1 &
+following=$!
 { RT_JOBS=${RT_JOBS:-$(side_by_side)} rt ci 2>&1 && echo 0 > "$ended/status" || echo $? > "$ended/status"; } | tee "$ended/said"
 status=$(cat "$ended/status")
 [ "$status" -eq 0 ] || exit "$status"
@@ -31,7 +35,6 @@ took "rt ci: $last"
 passed=${last%% passed*}
 # What is tried behind it, a command a line; the longest stand first.
 tries() {
-    tools/edits_by_function.py --list | sort -r | sed 's#^#tools/edits_by_function.py #'
     if [ -z "$missing" ]; then
         echo "tools/archive.py && make -s -C c_interface check"
         echo "then tools/try_dist.py"
@@ -71,9 +74,15 @@ for tool in make cc ar; do
 done
 [ -z "$missing" ] || echo "gate: the library for C and packages are left out, since there is no$missing"
 tries | tools/side_by_side.py | tee "$ended/tried" || true
-last=$(tail -n 1 "$ended/tried")
-failed=${last#* passed, } passed=$((passed + ${last%% passed*}))
-failed=${failed%% failed*}
+wait "$following" || true
+cat "$ended/edits"
+failed=0
+for part in tried edits; do
+    last=$(tail -n 1 "$ended/$part")
+    passed=$((passed + ${last%% passed*}))
+    last=${last#* passed, }
+    failed=$((failed + ${last%% failed*}))
+done
 took "all"
 if [ -z "$missing" ] && [ "$failed" -eq 0 ]; then
     tools/dist.py --passed "$passed passed, $failed failed" || echo "gate: packages can't say that they passed it"
