@@ -1,8 +1,8 @@
 #!/bin/sh
 # The gate: `rt ci` in this checkout (every proof from nothing, the must-fail edits, the tests and the stored runs), whose
 # status decides. Where it passes come, by the programs that it built, each example and a short run of what is tried from
-# outside (docs/TESTING.md), and the library for C with its examples; and by the libraries the edits of crates that take long
-# to prove. The last line is `N passed, M failed`.
+# outside (docs/TESTING.md), and the library for C with its examples. Beside it the edits by function are tried. The last line
+# is `N passed, M failed`.
 set -e
 cd "$(dirname "$0")/.."
 ended=$(mktemp -d)
