@@ -1,31 +1,31 @@
 #!/usr/bin/env python3
 """Tries edits crates/NAME/more-edits/*.edit that say of which functions they are: the prover has to refuse one of these.
 
-  tools/edits_by_function.py --list          those edits, as CRATE/EDIT
-  tools/edits_by_function.py CRATE/EDIT ..   tries these
-  tools/edits_by_function.py --follow FILE   tries all, each as soon as FILE, which gets what `rt ci` prints, says that its
-                                             crate is proved or kept; the last line is `N passed, M failed`
+  tools/edits_by_function.py --list                the crates that have such edits
+  tools/edits_by_function.py CRATE|CRATE/EDIT ..   tries these, or all of a crate
 
 Such an edit has a line `of: FUNCTION ..`, names as a check prints them, or their ends. The functions and what they call are
-checked alone, over the libraries that `rt ci` built here. An edit of must-fail/ costs its crate a second proof.
+checked alone, over the libraries that `rt ci` built here. Edits of different functions of a crate are applied together, since a
+proof rests on what others promise and not on their bodies; where it isn't plain that a function is refused for its own body, its
+edit is tried again alone, over what was proved the first time. An edit of must-fail/ costs its crate a second proof.
 """
-import concurrent.futures
 import os
 import re
 import shutil
 import subprocess
 import sys
 import tempfile
-import time
 
 from built import TOP, uses
 from unproved import Failed, kit
 
 MORE = "more-edits"
 OF = re.compile(r"(?m)^of: (.+)$")
-ENDED = re.compile(r"(?m)^only=(\d+) proved=(\d+)$")
-# What `rt ci` says of a crate whose library is there.
-PROVED = re.compile(r"(?m)^rt: (\w+) (?:proved$|is kept:)")
+ENDED = re.compile(r"(?m)^only=\d+ proved=\d+$")
+# What a check says of a function, and of one that it refuses for what that calls.
+JUDGED = re.compile(r"(?m)^fn (\S+): (.*)$")
+CALLS = re.compile(r"; it calls |: it calls ")
+OWN = "did not prove"
 # What the front end says of a text that the prover never reads.
 UNREAD = re.compile(r"\berror\[[\w-]+\]")
 
@@ -42,12 +42,16 @@ def edits():
     return [it for path in found if OF.search(text_of(it := f"{path.parts[-3]}/{path.stem}"))]
 
 
-def applied(edit, place):
-    """Copies the crate, with the edit."""
-    crate = edit.split("/")[0]
-    for part in ("src", "specs", "proofs"):
-        if (TOP / "crates" / crate / part).is_dir():
-            shutil.copytree(TOP / "crates" / crate / part, f"{place}/{part}")
+def functions_of(edit):
+    """The functions that it turns."""
+    found = OF.search(text_of(edit))
+    if not found:
+        raise Failed(f"{edit} doesn't say of which function it is")
+    return found[1].split()
+
+
+def apply(edit, place):
+    """Applies it to the copy of its crate in the folder."""
     path = old = None
     for line in text_of(edit).splitlines():
         key, _, said = line.partition(": ") if ": " in line else line.partition(":")
@@ -59,9 +63,16 @@ def applied(edit, place):
             with open(path, encoding="utf-8") as file:
                 text = file.read()
             if text.count(old) != 1:
-                raise Failed(f"its text stands {text.count(old)} times: {old}")
+                raise Failed(f"{edit}: its text stands {text.count(old)} times: {old}")
             with open(path, "w", encoding="utf-8") as file:
                 file.write(text.replace(old, said))
+
+
+def copy(crate, place):
+    """Copies what a check of the crate reads."""
+    for part in ("src", "specs", "proofs"):
+        if (TOP / "crates" / crate / part).is_dir():
+            shutil.copytree(TOP / "crates" / crate / part, f"{place}/{part}")
 
 
 def command(crate, functions, kit_at):
@@ -78,67 +89,75 @@ def command(crate, functions, kit_at):
     return words + [word for it in functions for word in ("--only", it)] + ["src/lib.rt"]
 
 
-def tried(edit, kit_at):
-    """Tries it: what the prover said, where it refused the functions."""
-    found = OF.search(text_of(edit))
-    if not found:
-        raise Failed("it doesn't say of which function it is")
-    with tempfile.TemporaryDirectory(prefix="edit-") as place:
-        applied(edit, place)
-        words = command(edit.split("/")[0], found[1].split(), kit_at)
-        ran = subprocess.run(words, cwd=place, stdout=subprocess.PIPE, stderr=subprocess.STDOUT, check=False)
-    said = ran.stdout.decode("utf-8", "replace")
-    ended = ENDED.search(said)
-    if UNREAD.search(said) or not ended:
-        raise Failed(f"it didn't reach the prover:\n{said[:2000]}")
-    if ran.returncode != 1 or ended[1] == ended[2]:
-        raise Failed(f"the functions are proved with it: {found[1]}")
-    return f"of {ended[1]} functions {ended[2]} are proved with it"
+def judged(crate, edits, kit_at, kept):
+    """Applies these to one copy of the crate, and has what they turn checked: by function, what the prover said of it.
 
-
-def is_refused(edit):
-    """Tries it, and prints what came of it."""
-    began = time.monotonic()
-    try:
-        print(f"{edit}: refused: {tried(edit, kit())}, {time.monotonic() - began:.0f} s", flush=True)
-        return True
-    except (Failed, OSError) as error:
-        print(f"{edit}: not refused: {error}", flush=True)
-        return False
-
-
-def follow(path):
-    """Tries all edits, as many at once as there are processors, each once the file says that its crate is proved.
-
-    Where whoever called it is gone, it begins no other.
+    What it proves is kept in this folder, for the next time.
     """
-    left, begun, caller = edits(), [], os.getppid()
-    with concurrent.futures.ThreadPoolExecutor(os.cpu_count()) as pool:
-        while left or not all(it.done() for it in begun):
-            if os.getppid() != caller:
-                pool.shutdown(cancel_futures=True)
-                raise Failed("whoever called this is gone")
-            with open(path, encoding="utf-8", errors="replace") as file:
-                proved = set(PROVED.findall(file.read()))
-            begun += [pool.submit(is_refused, it) for it in left if it.split("/")[0] in proved]
-            left = [it for it in left if it.split("/")[0] not in proved]
-            time.sleep(1)
-    return [it.result() for it in begun]
+    functions = list(dict.fromkeys(it for edit in edits for it in functions_of(edit)))
+    with tempfile.TemporaryDirectory(prefix="edit-") as place:
+        copy(crate, place)
+        for edit in edits:
+            apply(edit, place)
+        called = [*command(crate, functions, kit_at), "--incremental", kept]
+        ran = subprocess.run(called, cwd=place, stdout=subprocess.PIPE, stderr=subprocess.STDOUT, check=False)
+    said = ran.stdout.decode("utf-8", "replace")
+    if UNREAD.search(said) or not ENDED.search(said) or ran.returncode not in (0, 1):
+        raise Failed(f"{' '.join(edits)}: it didn't reach the prover:\n{said[:2000]}")
+    return {it: [how for name, how in JUDGED.findall(said) if f"::{name}".endswith(f"::{it}")] for it in functions}
+
+
+def is_refused(edit, found, is_alone):
+    """Whether one of its functions is refused for its own body, where that is plain, or nothing else can be the reason."""
+    said = [how for it in functions_of(edit) for how in found[it] if how != "proved"]
+    return any(is_alone or OWN in how or not CALLS.search(how) for how in said)
+
+
+def rounds(edits):
+    """The edits in lists, in each of which no two are of one function."""
+    found = []
+    for edit in edits:
+        mine = set(functions_of(edit))
+        place = next((it for it in found if not mine & it[0]), None)
+        if place is None:
+            place = (set(), [])
+            found.append(place)
+        place[0].update(mine)
+        place[1].append(edit)
+    return [those for _, those in found]
+
+
+def try_all(crate, edits, kit_at):
+    """Tries a crate's edits; says of each what came of it, and answers whether all were refused."""
+    refused = {}
+    with tempfile.TemporaryDirectory(prefix="edits-") as kept:
+        for those in rounds(edits):
+            found = judged(crate, those, kit_at, kept)
+            refused |= {edit: is_refused(edit, found, len(those) == 1) for edit in those}
+        for edit in [it for it, is_well in refused.items() if not is_well]:
+            refused[edit] = is_refused(edit, judged(crate, [edit], kit_at, kept), True)
+    for edit, is_well in refused.items():
+        print(f"{edit}: {'refused' if is_well else 'NOT REFUSED: proved with it: ' + ' '.join(functions_of(edit))}", flush=True)
+    return all(refused.values())
 
 
 def main():
-    if sys.argv[1:] == ["--list"]:
-        print("\n".join(edits()))
-        return 0
-    if len(sys.argv) == 3 and sys.argv[1] == "--follow":
-        refused = follow(sys.argv[2])
-        print(f"{sum(refused)} passed, {len(refused) - sum(refused)} failed")
-    elif len(sys.argv) > 1 and not sys.argv[1].startswith("-"):
-        refused = [is_refused(edit) for edit in sys.argv[1:]]
-    else:
+    if len(sys.argv) == 1 or sys.argv[1].startswith("-") and sys.argv[1:] != ["--list"]:
         print(__doc__, file=sys.stderr)
         return 2
-    return 0 if all(refused) else 1
+    if sys.argv[1:] == ["--list"]:
+        print("\n".join(dict.fromkeys(it.split("/")[0] for it in edits())))
+        return 0
+    wanted = {}
+    for word in sys.argv[1:]:
+        crate = word.split("/")[0]
+        wanted.setdefault(crate, []).extend([word] if "/" in word else [it for it in edits() if it.split("/")[0] == crate])
+    try:
+        kit_at = kit()
+        return 0 if all([try_all(crate, those, kit_at) for crate, those in wanted.items()]) else 1
+    except (Failed, OSError) as error:
+        print(f"edits_by_function: {error}", file=sys.stderr)
+        return 1
 
 
 if __name__ == "__main__":

@@ -1,8 +1,8 @@
 #!/bin/sh
 # The gate: `rt ci` in this checkout (every proof from nothing, the must-fail edits, the tests and the stored runs), whose
-# status decides. Where it passes come, by the programs that it built, each example and a short run of what is tried from
-# outside (docs/TESTING.md), and the library for C with its examples. Beside it the edits by function are tried. The last line
-# is `N passed, M failed`.
+# status decides. Beside it, by processors that nothing else wants, the edits by function are tried, and the library for C with
+# its examples. Where it passes come, by the programs that it built, each example and a short run of what is tried from outside
+# (docs/TESTING.md). The last line is `N passed, M failed`.
 set -e
 cd "$(dirname "$0")/.."
 ended=$(mktemp -d)
@@ -22,22 +22,36 @@ side_by_side() {
     [ "$processors" -ge 1 ] && echo "$processors" || echo 1
 }
 
-# The edits by function are tried meanwhile, each once its crate is proved, by processors that nothing else wants.
+missing=
+for tool in make cc ar; do
+    command -v "$tool" > /dev/null || missing="$missing $tool"
+done
+[ -z "$missing" ] || echo "gate: the library for C and packages are left out, since there is no$missing"
+
+# What is tried beside `rt ci`, once a crate is proved: what takes turns with a clock behind one of the last, where
+# processors are idle.
+beside() {
+    if [ -z "$missing" ]; then
+        echo "once run_command tools/archive.py && make -s -C c_interface check"
+    fi
+    tools/edits_by_function.py --list | while read -r edit; do
+        echo "once ${edit%%/*} tools/edits_by_function.py $edit"
+    done
+}
 : > "$ended/said"
-nice -n 19 tools/edits_by_function.py --follow "$ended/said" > "$ended/edits" 2>&1 &
+beside | nice -n 19 tools/side_by_side.py --most 2 --following "$ended/said" > "$ended/beside" 2>&1 &
 following=$!
 { RT_JOBS=${RT_JOBS:-$(side_by_side)} rt ci 2>&1 && echo 0 > "$ended/status" || echo $? > "$ended/status"; } | tee "$ended/said"
 status=$(cat "$ended/status")
 [ "$status" -eq 0 ] || exit "$status"
 last=$(tail -n 1 "$ended/said")
-took "rt ci: $last"
+took "rt ci: $last" | tee -a "$ended/said"
 
 passed=${last%% passed*}
 # What is tried behind it, a command a line; the longest stand first.
 tries() {
     if [ -z "$missing" ]; then
-        echo "tools/archive.py && make -s -C c_interface check"
-        echo "then tools/try_dist.py"
+        echo "tools/try_dist.py"
     fi
     for how in "" --forget --control; do
         echo "tools/cut_crashes.py --kills 20 $how"
@@ -68,16 +82,12 @@ END
         echo "tools/example.sh $example"
     done
 }
-missing=
-for tool in make cc ar; do
-    command -v "$tool" > /dev/null || missing="$missing $tool"
-done
-[ -z "$missing" ] || echo "gate: the library for C and packages are left out, since there is no$missing"
-tries | tools/side_by_side.py | tee "$ended/tried" || true
 wait "$following" || true
-cat "$ended/edits"
+cat "$ended/beside"
+took "what is tried beside it"
+tries | tools/side_by_side.py | tee "$ended/tried" || true
 failed=0
-for part in tried edits; do
+for part in beside tried; do
     last=$(tail -n 1 "$ended/$part")
     passed=$((passed + ${last%% passed*}))
     last=${last#* passed, }

@@ -1,20 +1,27 @@
 #!/usr/bin/env python3
-"""Runs commands side by side, as many at once as there are processors, and prints of each what it said when it has ended.
+"""Runs commands side by side, and prints of each what it said when it has ended.
 
-  tools/side_by_side.py < COMMANDS   a line each, for sh, in this repository's folder
+  tools/side_by_side.py [--most N] [--following FILE] < COMMANDS
 
-A line that begins with `then ` waits for the one before it. The last line is `N passed, M failed`, and the status is 1 where
-one failed.
+COMMANDS has a line each, for sh, in this repository's folder; N run at once at most, one a processor if it isn't given. A line
+that begins with `then ` waits for the one before it. One that begins with `once CRATE ` waits until FILE, which gets what
+`rt ci` prints, says that the crate is proved or kept, and fails where a line `gate: ..` comes without that. Where whoever called
+this is gone, no other begins. The last line is `N passed, M failed`, and the status is 1 where one failed.
 """
+import argparse
 import concurrent.futures
 import os
+import re
 import subprocess
 import sys
 import time
 
 from built import TOP
 
-THEN = "then "
+THEN, ONCE = "then ", "once "
+# What `rt ci` says of a crate whose library is there, and the gate's own first line behind it.
+PROVED = re.compile(r"(?m)^rt: (\w+) (?:proved$|is kept:)")
+OVER = re.compile(r"(?m)^gate: ")
 
 
 def chains(lines):
@@ -39,13 +46,53 @@ def ran(command):
     return it.returncode == 0
 
 
+def all_ran(chain):
+    """Runs these one after the other; answers of each whether it ended well."""
+    return [ran(command) for command in chain]
+
+
+def not_run(chain):
+    """Says that these weren't run."""
+    for command in chain:
+        print(f"-- {command}: its crate isn't proved", flush=True)
+    return [False] * len(chain)
+
+
+def crate_and_chain(chain):
+    """The crate that these wait for, if they wait for one, and their commands."""
+    if not chain[0].startswith(ONCE):
+        return None, chain
+    _, crate, first = chain[0].split(maxsplit=2)
+    return crate, [first, *chain[1:]]
+
+
+def followed(file, left, pool):
+    """Runs these, each once the file says that its crate is proved; answers of each command whether it ended well."""
+    begun, proved, said, caller = [], {None}, "", os.getppid()
+    while left or not all(it.done() for it in begun):
+        said = said[said.rfind("\n") + 1:] + file.read()
+        proved |= set(PROVED.findall(said))
+        begun += [pool.submit(all_ran, chain) for crate, chain in left if crate in proved]
+        left = [it for it in left if it[0] not in proved]
+        if OVER.search(said):
+            begun += [pool.submit(not_run, chain) for _, chain in left]
+            left = []
+        if os.getppid() != caller:
+            pool.shutdown(cancel_futures=True)
+            sys.exit("side_by_side: whoever called this is gone")
+        time.sleep(0.2)
+    return [well for it in begun for well in it.result()]
+
+
 def main():
-    if len(sys.argv) > 1:
-        print(__doc__, file=sys.stderr)
-        return 2
-    with concurrent.futures.ThreadPoolExecutor(os.cpu_count()) as pool:
-        each = list(pool.map(lambda chain: [ran(command) for command in chain], chains(sys.stdin)))
-    passed = [well for chain in each for well in chain]
+    parser = argparse.ArgumentParser(description=__doc__, formatter_class=argparse.RawDescriptionHelpFormatter)
+    parser.add_argument("--most", type=int, default=len(os.sched_getaffinity(0)))
+    parser.add_argument("--following", default=os.devnull)
+    options = parser.parse_args()
+    given = [crate_and_chain(chain) for chain in chains(sys.stdin)]
+    with open(options.following, encoding="utf-8", errors="replace") as file:
+        with concurrent.futures.ThreadPoolExecutor(options.most) as pool:
+            passed = followed(file, given, pool)
     print(f"{sum(passed)} passed, {len(passed) - sum(passed)} failed")
     return 0 if all(passed) else 1
 
