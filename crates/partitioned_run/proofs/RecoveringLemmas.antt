@@ -10,11 +10,11 @@ use Rattle.audit.proofs.GivenLemmas.{push_at}
 use Rattle.data_component.specs.Store.{Store}
 use Rattle.partitions.specs.Partitions.{partition_at}
 use Rattle.tc_core.specs.Core.{Core}
-use Rattle.run_command.specs.Kept.{FileJournal, KeepsLog}
-use Rattle.run_command.specs.declared.anew.Ground.{Ground}
-use Rattle.run_command.specs.declared.logged.OpenLog.{OpenLog}
-use Rattle.run_command.specs.declared.logged.RecoveredRun.{RecoveredRun}
-use Rattle.run_command.specs.Recovering.{IsBackFrom, IsOpened}
+use Rattle.run_log.specs.Kept.{FileJournal, KeepsLog}
+use Rattle.run_log.specs.declared.anew.Ground.{Ground}
+use Rattle.run_log.specs.declared.recovering.OpenLog.{OpenLog}
+use Rattle.run_log.specs.declared.recovering.RecoveredRun.{RecoveredRun}
+use Rattle.run_log.specs.Recovering.{IsBackFrom, IsOpened}
 use Rattle.log_file.specs.Found.{base_in}
 use Rattle.partitioned_run.specs.Belonging.{IsLogOfPartition}
 use Rattle.partitioned_run.specs.declared.grounds.Start.{Start}
@@ -22,8 +22,8 @@ use Rattle.partitioned_run.specs.Logged.{front_by, front_lines, front_of, AreSta
 use Rattle.partitioned_run.specs.Joining.Dividing.{IsKeptIf}
 use Rattle.partitioned_run.specs.Joining.Recovering.{IsRecovered, IsRecoveredFrom, IsRefusedAt}
 use Rattle.run_command.specs.Running.{begun, empty_stores}
-use Rattle.run_command.specs.declared.logged.Recovery.{Recovery}
-use Rattle.run_command.specs.declared.logged.Recovery.TheVariants.{Ready, Refused}
+use Rattle.run_log.specs.declared.recovering.Recovery.{Recovery}
+use Rattle.run_log.specs.declared.recovering.Recovery.TheVariants.{Ready, Refused}
 use Rattle.scripts.specs.Reading.{Contents}
 
 -- what a list has at a place

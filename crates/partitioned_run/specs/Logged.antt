@@ -13,10 +13,9 @@ use Rattle.script_loading.specs.Loading.{Beginning}
 use Rattle.tc_core.specs.Core.{Core}
 use Rattle.tc_log.specs.declared.event.Event.{Event}
 use Rattle.worker_pool.specs.declared.answer.Answer.{Answer}
-use Rattle.run_command.specs.declared.anew.Ground.{Ground}
-use Rattle.run_command.specs.Kept.{FileJournal, KeepsLog}
-use Rattle.run_command.specs.Logged.{IsLogFor, IsLogRefusal}
-use Rattle.run_command.specs.Recovering.{IsBackTo}
+use Rattle.run_log.specs.declared.anew.Ground.{Ground}
+use Rattle.run_log.specs.Kept.{FileJournal, KeepsLog}
+use Rattle.run_log.specs.Recovering.{IsLogFor, IsLogRefusal, IsBackTo}
 use Rattle.run_command.specs.Running.{begun, empty_stores}
 use Rattle.partitioned_run.specs.declared.grounds.Start.{Start}
 use Rattle.partitioned_run.specs.Belonging.{other_line, IsLogOfPartition, IsLogOfOther}

@@ -15,8 +15,8 @@ use Rattle.tc_core.specs.declared.state.Call.{Call}
 use Rattle.verifier.specs.Checked.{Checked}
 use Rattle.worker_pool.specs.Faults.{InRange}
 use Rattle.worker_pool.specs.declared.answer.Answer.{Answer}
-use Rattle.run_command.specs.declared.anew.Ground.{Ground}
-use Rattle.run_command.specs.declared.stop.Stop.{Stop}
+use Rattle.run_log.specs.declared.anew.Ground.{Ground}
+use Rattle.run_log.specs.declared.stop.Stop.{Stop}
 use Rattle.run_command.specs.AnswerLines.{answer_lines, fault_line}
 use Rattle.run_command.specs.Answered.{AreCallsOf, AreAnswered, AreServed}
 use Rattle.run_command.specs.Running.{begun, empty_stores, is_want_of_memory}

@@ -11,9 +11,9 @@ ghost use Rattle.partitioned_run.specs.Joining.Dividing.{AreRun, IsDivided, IsGr
 ghost use Rattle.partitioned_run.specs.declared.grounds.Start.{Start as StartValue};
 
 use crate::grounds::{Start, Task, own_ground};
-use run_command::running::{
-    Answers, Checkpoints, Ground, Manner, Rings, RunInput, Stop, answer_on, call_of,
-};
+use run_command::running::{Answers, Manner, Rings, RunInput, answer_on, call_of};
+use run_log::anew::{Checkpoints, Ground};
+use run_log::stop::Stop;
 use scripts::script;
 use std::alloc::{AllocError, Global};
 use std::sync::Wait;

@@ -9,7 +9,7 @@ ghost use Rattle.partitioned_run.specs.Belonging.{IsEventOf, IsEventOfOther, IsL
 use crate::dividing::partition_of_procedure;
 use log_file::BaseRow;
 use partitions::Partitions;
-use run_command::logged::OpenLog;
+use run_log::recovering::OpenLog;
 use std::alloc::{AllocError, Global};
 use tc_core::Procs;
 use tc_log::event::Entry;

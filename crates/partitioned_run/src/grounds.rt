@@ -6,7 +6,8 @@ ghost use Rattle.script_loading.specs.Loading.{first_unverified};
 ghost use Rattle.run_command.specs.Running.{begun, empty_stores};
 
 use crate::dividing::Division;
-use run_command::running::{Ground, Manner, Waits};
+use run_command::running::{Manner, Waits};
+use run_log::anew::Ground;
 use script_loading::loading::{Unloaded, empty_dcs, state_of};
 use scripts::script::Script;
 use std::alloc::{AllocError, Global};

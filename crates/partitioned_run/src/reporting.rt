@@ -2,7 +2,7 @@
 
 ghost use Rattle.std.specs.Prelude.{◌≡◌, ◌++◌, ◌&&◌, [], ◌∷◌, List, Result, false, if◌then◌else◌, IfOk, OnOk, codes, string_bytes};
 ghost use Rattle.std.specs.List.{list_any};
-ghost use Rattle.run_command.specs.declared.stop.Stop.{Stop as StopValue};
+ghost use Rattle.run_log.specs.declared.stop.Stop.{Stop as StopValue};
 ghost use Rattle.run_command.specs.AnswerLines.{answer_lines};
 ghost use Rattle.state_lines.specs.RowLines.{AddsRowLines};
 ghost use Rattle.run_command.specs.Running.{is_want_of_memory};
@@ -15,7 +15,9 @@ use crate::fault::Fault;
 use crate::recovering::file_of;
 use data_component::dc::Dc;
 use partitions::Partitions;
-use run_command::running::{Ground, Stop, has_want_of_memory, write_answers, write_found};
+use run_command::running::{has_want_of_memory, write_answers, write_found};
+use run_log::anew::Ground;
+use run_log::stop::Stop;
 use state_lines::row_lines::write_rows;
 use std::alloc::{AllocError, Global};
 use std::fs::File;

@@ -24,8 +24,9 @@ use crate::reporting::{
 use data_component::dc::Dc;
 use partitions::merged;
 use report_texts::output::Output;
-use run_command::logged::Recovery;
-use run_command::running::{Listeners, Manner, Stop, Waits, stopped};
+use run_command::running::{Listeners, Manner, Waits, of_manner, stopped};
+use run_log::recovering::Recovery;
+use run_log::stop::Stop;
 use script_loading::loading::{Acceptance, Accepted, Source, accept_source, empty_dcs};
 use scripts::keyword::Command;
 use std::alloc::{AllocError, Global};
@@ -197,7 +198,7 @@ fn run_fit<R: Files<File = File> + Clock + Threads + Wait + Sync>(
     ensures { IfOk result (λ r. IsContentsRun (is_some log.entry) (contents_of accepted.entry.script)
         manner.workers manner.tries manner.audit r.status (string_bytes r.lines)) }
 {
-    match Stop::of_manner(manner) {
+    match of_manner(manner) {
         Some(stop) => {
             drop(accepted);
             Ok(stopped(alloc, stop)?)

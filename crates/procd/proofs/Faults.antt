@@ -2,7 +2,7 @@
 use Rattle.std.proofs.Common.{arith, ◌≡◌, ℕ, List, Option, Some, None, Bool, [], refl, sym, subst, inl, inr, codes}
 use Rattle.std.specs.Prelude.{IfSome, ◌≤◌, ◌⊎◌, ◌++◌, decimal}
 use Rattle.disk_file.specs.declared.opening.FileKind.{FileKind}
-use Rattle.run_command.specs.LogLines.{kind_refusal}
+use Rattle.run_log.specs.LogLines.{kind_refusal}
 use Rattle.log_part.specs.declared.part.Part.{Part}
 use Rattle.procd.specs.Streams.{Stream, stream, IsKept, Begins, Ends, Runs, IsLog, IsRefusedBy, FurtherFails, ScriptFails, LogFails, PartFails, followed_part}
 use Rattle.procd.specs.Streams.{IsFollowed, StopsBehind, Refused, RefusedInPart, NotPrinted, NotRead, OutOfMemory}

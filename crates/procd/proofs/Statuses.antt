@@ -20,9 +20,9 @@ use Rattle.log_file.specs.declared.stored.Stored.{Stored}
 use Rattle.log_command.specs.LogReport.{IsUnread, IsListing, Listed, Unread, IsChecked, NotBegun, NotBrought, Audited}
 use Rattle.log_command.specs.LogReport.{IsBeside, NotRead, Anothers, Own, IsAuditBy}
 use Rattle.log_command.specs.PictureReport.{IsPicturing, Drawn, NotDrawn}
-use Rattle.run_command.specs.declared.anew.Checkpoints.{Checkpoints}
-use Rattle.run_command.specs.declared.anew.Renewal.{Renewal}
-use Rattle.run_command.specs.Kept.{FileJournal}
+use Rattle.run_log.specs.declared.anew.Checkpoints.{Checkpoints}
+use Rattle.run_log.specs.declared.anew.Renewal.{Renewal}
+use Rattle.run_log.specs.Kept.{FileJournal}
 use Rattle.run_command.specs.Parts.{IsKeptSo}
 use Rattle.run_command.specs.Running.{IsRunBy, IsCallsRun, Ran, Stopped, never, begun, empty_stores}
 use Rattle.run_command.specs.Logged.{IsLoggedRun, Unopened, Refused, Behind as GoneOn, IsLoggedBy}

@@ -2,7 +2,7 @@
 use Rattle.std.specs.Prelude.{◌≡◌, ◌⊎◌, ℕ, Bool, true, false, List, [], ◌∷◌, ◌++◌, take, Option, Some, None, IfSome, Result, Ok, Err, codes, decimal}
 use Rattle.std.specs.Io.KnownBytes.{Appends}
 use Rattle.disk_file.specs.declared.opening.FileKind.{FileKind}
-use Rattle.run_command.specs.LogLines.{kind_refusal}
+use Rattle.run_log.specs.LogLines.{kind_refusal}
 use Rattle.log_part.specs.declared.part.Part.{Part}
 use Rattle.log_command.specs.declared.following.Seam.{Seam}
 use Rattle.log_command.specs.LogReport.{IsUnread}

@@ -6,7 +6,7 @@ use Rattle.disk_file.specs.Disk.{disk_bytes, left_of}
 use Rattle.log_journal.specs.Keeping.{HasWritten}
 use Rattle.journals.specs.Optional.{any_has, any_keeps}
 use Rattle.worker_pool.specs.Journals.{HasKept}
-use Rattle.run_command.specs.Kept.{FileJournal, KeepsLog}
+use Rattle.run_log.specs.Kept.{FileJournal, KeepsLog}
 use Rattle.run_command.proofs.RunLemmas.{turned}
 
 not_both : true ≡ false → ⊥

@@ -4,6 +4,5 @@ pub mod KeptLemmas
 pub mod RunLemmas
 pub mod ServerLemmas
 pub mod LoggedLemmas
-pub mod AnewLemmas
 pub mod PartsLemmas
 pub mod StopLemmas

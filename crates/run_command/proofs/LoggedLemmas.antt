@@ -1,66 +1,12 @@
--- What opening a log's file and coming back from its log come to.
-use Rattle.std.specs.Prelude.{string_bytes}
-use Rattle.std.proofs.Common.{◌≡◌, ◌∙◌, ◌++◌, List, ℕ, Option, Some, [], ◌∷◌, length, map, reverse, take, drop, refl, sym, ap, subst, inl, inr, arith}
+-- Data components that are lent, and those that a script begins with.
+use Rattle.std.proofs.Common.{◌≡◌, ◌∙◌, ◌++◌, List, ℕ, [], ◌∷◌, length, map, take, drop, refl, ap, arith}
 use Rattle.std.specs.List.{All}
 use Rattle.std.proofs.lemmas.List.{drop_all, take_all, append-nil}
 use Rattle.std.proofs.lemmas.List.Elements.{All-cons, All-nil}
-use Rattle.tc_log.specs.declared.event.Event.{Event}
 use Rattle.data_component.specs.Store.{Store}
 use Rattle.scripts.specs.declared.script.Dc.{Dc}
 use Rattle.script_loading.specs.Loading.{empty_store}
-use Rattle.tc_core.specs.Core.{Core}
-use Rattle.coming_back.specs.declared.coming.ComeBackFault.{ComeBackFault}
 use Rattle.coming_back.specs.Coming.{HasOnlyRows}
-use Rattle.coming_back.specs.Faults.{IsFaultOf}
-use Rattle.std.specs.declared.alloc.Global.{Global}
-use Rattle.std.specs.declared.string.String.{String}
-use Rattle.run_command.specs.declared.logged.OpenLog.{OpenLog}
-use Rattle.run_command.specs.declared.logged.RecoveredRun.{RecoveredRun}
-use Rattle.run_command.specs.declared.logged.Recovery.{Recovery}
-use Rattle.run_command.specs.declared.logged.Recovery.TheVariants.{Ready, Refused}
-use Rattle.log_file.specs.declared.header.Header.{Header}
-use Rattle.log_file.specs.declared.reading.OpenFault.{OpenFault}
-use Rattle.log_file.specs.Reading.{IsRefusal}
-use Rattle.coming_back.specs.declared.resumed.Resumed.{Resumed}
-use Rattle.report_texts.specs.declared.output.Output.{Output}
-use Rattle.run_command.specs.LogLines.{IsOtherRefusal, IsOpenRefusal, overfull_refusal}
-use Rattle.run_command.specs.Kept.{FileJournal}
-use Rattle.run_command.specs.Logged.{IsLogFor, HasComeBack, overfull, Baseless, Unfit, Overfull}
-use Rattle.base_records.specs.declared.beginning.BaseFault.{BaseFault}
-use Rattle.base_records.specs.Beginning.{HaveBegun, IsUnbegun}
-use Rattle.base_records.specs.Lines.{base_fault_line}
-use Rattle.log_file.specs.Bytes.{Rows}
-use Rattle.log_file.specs.Found.{base_in}
-use Rattle.run_command.specs.Joining.Opening.{IsUnfit, IsComing}
-use Rattle.run_command.specs.Recovering.{IsBegun, IsGoingBack, IsOpened}
-
-pub baseless_comes : (start : Core) (empties : List Store) (file : List ℕ) (base : Option Rows) (log : List Event) (after : Core) (dcs : List Store)
-    (journal : FileJournal) (report : Output) (fault : BaseFault) → IsLogFor start file base log → IsUnbegun base empties fault
-    → string_bytes report.lines ≡ base_fault_line fault → report.status ≡ 1
-    → IsComing start empties base log after dcs journal (Refused report)
-baseless_comes start empties file base log after dcs journal report fault is_log why line status = (Baseless file base log fault is_log why line, status)
-
-pub unfit_comes : (start : Core) (empties : List Store) (file : List ℕ) (base : Option Rows) (log : List Event) (begun : List Store) (after : Core)
-    (dcs : List Store) (journal : FileJournal) (fault : ComeBackFault) (x : Recovery (String Global)) → IsLogFor start file base log
-    → HaveBegun base (reverse log) empties begun → IsFaultOf start log (length begun) after dcs fault → IsUnfit fault x
-    → IsComing start empties base log after dcs journal x
-unfit_comes start empties file base log begun after dcs journal fault (Ready lines) is_log begins why h = absurd h
-unfit_comes start empties file base log begun after dcs journal fault (Refused report) is_log begins why h =
-    (Unfit file base log begun after dcs fault is_log begins why h.0, h.1)
-
-pub overfull_comes : (start : Core) (empties : List Store) (file : List ℕ) (base : Option Rows) (log : List Event) (begun : List Store) (back : Core)
-    (dcs : List Store) (resumed : List Resumed) (journal : FileJournal) (report : Output) (d : ℕ) → IsLogFor start file base log
-    → HaveBegun base (reverse log) empties begun → HasComeBack start begun log back dcs resumed → overfull dcs resumed ≡ Some d
-    → string_bytes report.lines ≡ overfull_refusal d → report.status ≡ 1
-    → IsComing start empties base log back dcs journal (Refused report)
-overfull_comes start empties file base log begun back dcs resumed journal report d is_log begins came over line status =
-    (Overfull file base log begun back dcs resumed is_log begins came d over line, status)
-
-pub begun_by : (start : Core) (empties : List Store) (back : Core) (dcs : List Store) (opened : OpenLog) (x : Recovery RecoveredRun) → IsOpened start opened
-    → IsGoingBack start empties (base_in opened.base) opened.log.events back dcs x → IsBegun start empties back dcs x
-begun_by start empties back dcs opened (Ready b) o h =
-    record { file = o.file; base = base_in opened.base; log = opened.log.events; is_log = o.is_log; from = h }
-begun_by start empties back dcs opened (Refused report) o h = h
 
 -- a slice that is as long as the vector that lent it is all of it
 pub lent_whole : (new old : List Store) (len : ℕ) → len ≡ length old → length new ≡ length old → take len (new ++ drop (length new) old) ≡ new

@@ -7,8 +7,8 @@ use Rattle.scripts.specs.declared.script.Call.{Call}
 use Rattle.tc_log.specs.declared.event.Event.{Event}
 use Rattle.tc_core.specs.Core.{Core}
 use Rattle.worker_pool.specs.Faults.{InRange}
-use Rattle.run_command.specs.declared.anew.Checkpoints.{Checkpoints}
-use Rattle.run_command.specs.declared.anew.Renewal.{Renewal}
+use Rattle.run_log.specs.declared.anew.Checkpoints.{Checkpoints}
+use Rattle.run_log.specs.declared.anew.Renewal.{Renewal}
 use Rattle.run_command.specs.declared.parts.RunOutcome.{RunOutcome}
 use Rattle.run_command.specs.Joining.Parts.{HasEnded}
 use Rattle.run_command.specs.Running.{AreLinesOf, IsCallsRun, Ran, Stopped}

@@ -9,11 +9,12 @@ use Rattle.worker_pool.specs.declared.running.RunFault.{RunFault}
 use Rattle.worker_pool.specs.declared.running.RunFault.TheVariants as fault
 use Rattle.worker_pool.specs.declared.report.Report.{Report}
 use Rattle.worker_pool.specs.Faults.{FaultFits, InRange, TriesFit}
-use Rattle.run_command.specs.declared.stop.Stop.{Stop}
-use Rattle.run_command.specs.declared.stop.Stop.TheVariants.{Tries, Workers, NoThread, Memory, Unread, NotKept}
+use Rattle.run_log.specs.declared.stop.Stop.{Stop}
+use Rattle.run_log.specs.declared.stop.Stop.TheVariants.{Tries, Workers, NoThread, Memory, Unread, NotKept}
 use Rattle.run_command.specs.AnswerLines.{fault_line}
-use Rattle.run_command.specs.Kept.{FileJournal}
-use Rattle.run_command.specs.Stops.{IsUnkept, Stops}
+use Rattle.run_log.specs.Kept.{FileJournal}
+use Rattle.run_log.specs.Stops.{IsUnkept}
+use Rattle.run_command.specs.Stops.{Stops}
 use Rattle.run_command.specs.Joining.Stopping.{ListStops, stop_of}
 use Rattle.run_command.proofs.KeptLemmas.{keeps_if_there}
 

@@ -6,8 +6,8 @@ use Rattle.call_results.specs.Results.{result_at_end, slots_at_end}
 use Rattle.call_results.specs.declared.results.SlotResult.{SlotResult}
 use Rattle.worker_pool.specs.declared.answer.Answer.{Answer}
 use Rattle.worker_pool.specs.declared.answer.Answer.TheVariants.{Committed, Aborted, NoRoom, InDoubt, Blocked, Refused}
-use Rattle.run_command.specs.declared.stop.Stop.{Stop}
-use Rattle.run_command.specs.declared.stop.Stop.TheVariants.{Tries, Workers, NoThread, Memory, Unread, NotKept}
+use Rattle.run_log.specs.declared.stop.Stop.{Stop}
+use Rattle.run_log.specs.declared.stop.Stop.TheVariants.{Tries, Workers, NoThread, Memory, Unread, NotKept}
 use Rattle.state_lines.specs.RecordTexts.{record_text, value_text}
 use Rattle.state_lines.specs.RefusalTexts.{refusal_text}
 

@@ -2,12 +2,8 @@ pub mod AnswerLines
 pub mod Figures
 pub mod Outcomes
 pub mod Stops
-pub mod Kept
-pub mod Anew
 pub mod Answered
 pub mod Parts
 pub mod Running
-pub mod LogLines
 pub mod Logged
-pub mod Recovering
 pub mod Joining

@@ -1,17 +1,17 @@
 -- Calls that are answered in parts, between which the log may begin anew.
-use Rattle.std.specs.Prelude.{◌≡◌, ℕ, List, [], ◌∷◌, ◌++◌, length, Option, Some, None, Bool, false, if◌then◌else◌, codes}
+use Rattle.std.specs.Prelude.{◌≡◌, ℕ, List, [], ◌∷◌, ◌++◌, length, Option, None, Bool, false, codes}
 use Rattle.data_component.specs.Store.{Store}
 use Rattle.scripts.specs.declared.script.Call as said
 use Rattle.tc_core.specs.Core.{Core}
 use Rattle.tc_core.specs.declared.state.Call.{Call}
 use Rattle.worker_pool.specs.declared.answer.Answer.{Answer}
-use Rattle.run_command.specs.declared.anew.Checkpoints.{Checkpoints}
-use Rattle.run_command.specs.declared.anew.Renewal.{Renewal}
-use Rattle.run_command.specs.declared.anew.Renewal.TheVariants.{Unwanted}
-use Rattle.run_command.specs.Anew.{IsRenewal, IsHeeded}
+use Rattle.run_log.specs.declared.anew.Checkpoints.{Checkpoints}
+use Rattle.run_log.specs.declared.anew.Renewal.{Renewal}
+use Rattle.run_log.specs.declared.anew.Renewal.TheVariants.{Unwanted}
+use Rattle.run_log.specs.Anew.{IsRenewal, IsHeeded, over_at_end}
 use Rattle.run_command.specs.AnswerLines.{answer_lines, call_lines}
 use Rattle.run_command.specs.Answered.{AreCallsOf, AreAnswered, AreServed}
-use Rattle.run_command.specs.Kept.{FileJournal, KeepsLog}
+use Rattle.run_log.specs.Kept.{FileJournal, KeepsLog}
 
 -- calls of the first list and then of the second one that were answered so, and their lines, or a log that may have begun anew
 pub data Stage : Type 0 where
@@ -85,10 +85,6 @@ AreOne over first calls first_answers other_answers lines stages = over ≡ None
 -- and where it isn't behind the last call either, it doesn't
 abbrev pub IsWanted : Checkpoints → Renewal → Type 0
 IsWanted checkpoints renewal = checkpoints.over ≡ None → checkpoints.at_end ≡ false → renewal ≡ Unwanted
-
--- with how many bytes of its file it begins anew behind the last call
-abbrev pub over_at_end : Checkpoints → Option ℕ
-over_at_end checkpoints = if checkpoints.at_end then Some 0 else checkpoints.over
 
 -- the file has all of the last log on the disk, and that has begun anew where it is to, or is barred
 abbrev pub IsKeptSo : Option FileJournal → Checkpoints → Core → Renewal → Type 0

@@ -9,11 +9,11 @@ use Rattle.tc_core.specs.declared.state.Refusal.TheVariants as refusal
 use Rattle.worker_pool.specs.Faults.{InRange}
 use Rattle.worker_pool.specs.declared.answer.Answer.{Answer}
 use Rattle.worker_pool.specs.declared.answer.Answer.TheVariants.{Refused}
-use Rattle.run_command.specs.declared.anew.Checkpoints.{Checkpoints}
-use Rattle.run_command.specs.declared.anew.Renewal.{Renewal}
-use Rattle.run_command.specs.declared.stop.Stop.{Stop}
+use Rattle.run_log.specs.declared.anew.Checkpoints.{Checkpoints}
+use Rattle.run_log.specs.declared.anew.Renewal.{Renewal}
+use Rattle.run_log.specs.declared.stop.Stop.{Stop}
 use Rattle.run_command.specs.AnswerLines.{fault_line}
-use Rattle.run_command.specs.Anew.{IsRenewal, renewal_line}
+use Rattle.run_log.specs.Anew.{IsRenewal, renewal_line}
 use Rattle.run_command.specs.Parts.{Stage, HaveLed, AreOne, IsWanted}
 use Rattle.run_command.specs.Stops.{Stops}
 use Rattle.state_lines.specs.AuditLines.{AddsIf, AddsAudit}

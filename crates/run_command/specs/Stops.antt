@@ -1,8 +1,8 @@
 -- What stops a run.
 use Rattle.std.specs.Prelude.{◌≡◌, ◌⊎◌, ℕ, ◌<◌, Bool, true}
 use Rattle.worker_pool.specs.Faults.{TriesFit}
-use Rattle.run_command.specs.declared.stop.Stop.{Stop}
-use Rattle.run_command.specs.declared.stop.Stop.TheVariants.{Tries, Workers, NoThread, Memory, Unread, NotKept}
+use Rattle.run_log.specs.declared.stop.Stop.{Stop}
+use Rattle.run_log.specs.declared.stop.Stop.TheVariants.{Tries, Workers, NoThread, Memory, Unread, NotKept}
 
 -- when each stops the calls of both lists, or those of the second, with a journal or without one: the tries are looked at before the workers, of
 -- whom the first list has one. Memory may run out before that, and something isn't kept only where there is a journal
@@ -22,12 +22,3 @@ IsOutOfRange workers tries NoThread = ⊥
 IsOutOfRange workers tries Memory = ⊥
 IsOutOfRange workers tries (Unread fault) = ⊥
 IsOutOfRange workers tries (NotKept failure) = ⊥
-
--- a run ends so without a line: for want of memory, or because something wasn't kept, where there is a journal
-abbrev pub IsUnkept : (keeps : Bool) → Stop → Type 0
-IsUnkept keeps Tries = ⊥
-IsUnkept keeps Workers = ⊥
-IsUnkept keeps NoThread = ⊥
-IsUnkept keeps Memory = Unit {0}
-IsUnkept keeps (Unread fault) = ⊥
-IsUnkept keeps (NotKept failure) = keeps ≡ true

@@ -5,8 +5,8 @@ ghost use Rattle.call_results.specs.Results.{slots_at_end};
 ghost use Rattle.run_command.specs.AnswerLines.{answer_text, answer_line, answer_lines, fault_line};
 ghost use Rattle.run_command.specs.AnswerLines.{slot_line, slot_lines, call_line, call_lines};
 
-use crate::stop::Stop;
 use call_results::{SlotResult, logged_result, logged_slot_count};
+use run_log::stop::Stop;
 use state_lines::record_texts::{record_text, value_text};
 use state_lines::refusal_texts::refusal_text;
 use std::alloc::{AllocError, Global};

@@ -6,18 +6,18 @@ ghost use Rattle.data_component.specs.Store.{Store};
 ghost use Rattle.worker_pool.specs.Faults.{InRange};
 ghost use Rattle.run_command.specs.Answered.{AreAnswered, AreServed};
 ghost use Rattle.run_command.specs.Stops.{Stops};
-ghost use Rattle.run_command.specs.Kept.{KeepsLog};
+ghost use Rattle.run_log.specs.Kept.{KeepsLog};
 ghost use Rattle.run_command.specs.Joining.Stopping.{stop_of};
 ghost use Rattle.disk_file.specs.declared.fault.FileFault.{FileFault as FaultValue};
 ghost use Rattle.run_command.specs.Joining.Servers.{ArePromised};
 
-use crate::anew::{Checkpoints, Ground};
-use crate::stop::Stop;
+use crate::stop::stop_of;
 use crate::watching::{Waits, Watch};
 use data_component::dc::Dc;
 use dc_links::{RingLink, ServedFrom};
-use disk_file::{DiskFile, FileFault};
-use log_journal::LogJournal;
+use disk_file::FileFault;
+use run_log::anew::{Checkpoints, FileJournal, Ground};
+use run_log::stop::Stop;
 use std::alloc::{AllocError, Global};
 use std::snapshot::Snapshot;
 use std::sync::Wait;
@@ -57,9 +57,6 @@ impl<C> Clone for RunInput<'_, C> {
 
 impl<C> Copy for RunInput<'_, C> {}
 
-/// A journal in a file.
-pub type FileJournal = LogJournal<DiskFile>;
-
 // What the file of a journal says of a keep that failed.
 fn failure_of(journal: &Option<FileJournal>) -> Option<FileFault> {
     match journal {
@@ -81,7 +78,7 @@ fn listed(
         Err(fault) => {
             let failure = failure_of(&journal);
             drop(journal);
-            Err(Stop::of(fault, failure))
+            Err(stop_of(fault, failure))
         }
     }
 }

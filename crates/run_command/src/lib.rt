@@ -10,11 +10,9 @@
 //! ```
 #![tactic(auto)]
 
-mod anew;
 mod answer_lines;
 mod answering;
 mod figures;
-mod log_lines;
 pub mod logged;
 mod parts;
 pub mod running;

@@ -9,27 +9,27 @@ ghost use Rattle.tc_core.specs.Admission.{call_of};
 ghost use Rattle.run_command.specs.AnswerLines.{fault_line};
 ghost use Rattle.state_lines.specs.AuditLines.{AddsIf, AddsAudit};
 ghost use Rattle.state_lines.specs.RowLines.{AddsRowLines};
-ghost use Rattle.run_command.specs.Kept.{KeepsLog};
+ghost use Rattle.run_log.specs.Kept.{KeepsLog};
 ghost use Rattle.run_command.specs.Answered.{said_call, AreCallsOf};
 ghost use Rattle.run_command.specs.Parts.{IsKeptSo};
-ghost use Rattle.run_command.specs.Stops.{IsUnkept, Stops};
-ghost use Rattle.run_command.specs.declared.stop.Stop.TheVariants as Stop;
+ghost use Rattle.run_log.specs.Stops.{IsUnkept};
+ghost use Rattle.run_command.specs.Stops.{Stops};
+ghost use Rattle.run_log.specs.declared.stop.Stop.TheVariants as Stop;
 ghost use Rattle.run_command.specs.Running.{is_want_of_memory, AreLinesOf, IsCallsRun, IsRun};
 
-pub use crate::anew::{Checkpoints, Ground};
-use crate::anew::{Renewal, write_renewal};
 use crate::answer_lines::fault_line;
 pub use crate::answer_lines::write_answers;
-use crate::answering::FileJournal;
 pub use crate::answering::{Answers, Manner, Rings, RunInput, answer_on};
 use crate::figures::{
     Watched, delay_lines, figures, full_dcs, latency_lines, log_figures, procedure_lines, rate,
 };
 use crate::parts::{RunOutcome, answer_parts};
-pub use crate::stop::Stop;
+pub use crate::stop::of_manner;
 pub use crate::watching::{Listeners, Waits};
 use data_component::dc::Dc;
 use report_texts::output::Output;
+use run_log::anew::{Checkpoints, FileJournal, Ground, Renewal, write_renewal};
+use run_log::stop::Stop;
 use script_loading::loading::{Loaded, Loading, Source, load_source};
 use scripts::keyword::Command;
 use scripts::script;
@@ -329,7 +329,7 @@ pub fn running<R: Files<File = File> + Clock + Threads + Wait + Sync>(
         Loading::Ready(loaded) => loaded,
         Loading::Refused(report) => return Ok(report),
     };
-    if let Some(stop) = Stop::of_manner(manner) {
+    if let Some(stop) = of_manner(manner) {
         drop(loaded);
         return Ok(stopped(alloc, stop)?);
     }

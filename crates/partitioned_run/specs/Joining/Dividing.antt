@@ -7,8 +7,8 @@ use Rattle.scripts.specs.declared.script.Call.{Call}
 use Rattle.scripts.specs.declared.script.Script.{Script}
 use Rattle.script_loading.specs.Loading.{first_unverified}
 use Rattle.verifier.specs.Checked.{Checked}
-use Rattle.run_command.specs.declared.anew.Ground.{Ground}
-use Rattle.run_command.specs.declared.stop.Stop.{Stop}
+use Rattle.run_log.specs.declared.anew.Ground.{Ground}
+use Rattle.run_log.specs.declared.stop.Stop.{Stop}
 use Rattle.worker_pool.specs.declared.answer.Answer.{Answer}
 use Rattle.run_command.specs.Running.{begun, empty_stores}
 use Rattle.partitioned_run.specs.declared.answering.PartitionOutcome.{PartitionOutcome}

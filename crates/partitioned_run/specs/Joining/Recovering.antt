@@ -5,8 +5,8 @@ use Rattle.data_component.specs.Store.{Store}
 use Rattle.partitions.specs.Partitions.{partition_at}
 use Rattle.report_texts.specs.declared.output.Output.{Output}
 use Rattle.run_command.specs.Running.{begun, empty_stores}
-use Rattle.run_command.specs.declared.logged.Recovery.{Recovery}
-use Rattle.run_command.specs.declared.logged.Recovery.TheVariants.{Ready, Refused}
+use Rattle.run_log.specs.declared.recovering.Recovery.{Recovery}
+use Rattle.run_log.specs.declared.recovering.Recovery.TheVariants.{Ready, Refused}
 use Rattle.scripts.specs.Reading.{Contents}
 use Rattle.tc_core.specs.Core.{Core}
 use Rattle.partitioned_run.specs.declared.grounds.Start.{Start}

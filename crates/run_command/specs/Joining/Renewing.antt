@@ -2,10 +2,10 @@
 use Rattle.std.specs.Prelude.{◌≡◌, ℕ, ◌++◌, Option, None, string_bytes}
 use Rattle.std.specs.declared.string.String.{String}
 use Rattle.std.specs.declared.alloc.Global.{Global}
-use Rattle.run_command.specs.declared.anew.Ground.{Ground}
-use Rattle.run_command.specs.declared.anew.Renewal.{Renewal}
-use Rattle.run_command.specs.declared.anew.Renewal.TheVariants.{Unwanted}
-use Rattle.run_command.specs.Anew.{IsRenewal, IsHeeded, renewal_line}
+use Rattle.run_log.specs.declared.anew.Ground.{Ground}
+use Rattle.run_log.specs.declared.anew.Renewal.{Renewal}
+use Rattle.run_log.specs.declared.anew.Renewal.TheVariants.{Unwanted}
+use Rattle.run_log.specs.Anew.{IsRenewal, IsHeeded, renewal_line}
 
 -- it has begun anew where it is to, or is barred, and its line stands behind these
 pub record IsRenewedFirst (was : Ground) (lines : String Global) (over : Option ℕ) (now : Ground) (all : String Global) : Type 0 where

@@ -1,19 +1,13 @@
 -- What stops one list of calls.
 use Rattle.std.specs.Prelude.{◌≡◌, ℕ, Bool, Option}
 use Rattle.disk_file.specs.declared.fault.FileFault.{FileFault}
-use Rattle.journals.specs.declared.journal.NotKept.{NotKept as Why}
-use Rattle.journals.specs.declared.journal.NotKept.TheVariants as why
 use Rattle.tc_core.specs.Core.{Core}
 use Rattle.worker_pool.specs.declared.running.RunFault.{RunFault}
 use Rattle.worker_pool.specs.declared.running.RunFault.TheVariants as fault
 use Rattle.worker_pool.specs.Faults.{FaultFits}
-use Rattle.run_command.specs.declared.stop.Stop.{Stop}
-use Rattle.run_command.specs.declared.stop.Stop.TheVariants.{Tries, Workers, NoThread, Memory, NotKept}
-
--- a journal didn't keep something, whose file says this of it
-abbrev pub unkept_of : Why → Option FileFault → Stop
-unkept_of why.Failed failure = NotKept failure
-unkept_of why.Memory failure = Memory
+use Rattle.run_log.specs.declared.stop.Stop.{Stop}
+use Rattle.run_log.specs.Stops.{unkept_of}
+use Rattle.run_log.specs.declared.stop.Stop.TheVariants.{Tries, Workers, NoThread, Memory}
 
 -- a run's fault, without the state
 abbrev pub stop_of : RunFault → Option FileFault → Stop

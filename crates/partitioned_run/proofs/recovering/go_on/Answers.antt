@@ -5,8 +5,7 @@ use Rattle.base_records.proofs.BaseLemmas.{begun_count}
 use Rattle.data_component.specs.Store.{Store, restarted}
 use Rattle.log_file.specs.Found.{base_in}
 use Rattle.run_command.proofs.LoggedLemmas.{lent_whole}
-use Rattle.run_command.specs.Logged.{IsLogRefusal}
-use Rattle.run_command.specs.Recovering.{IsBackFrom}
+use Rattle.run_log.specs.Recovering.{IsLogRefusal, IsBackFrom}
 use Rattle.partitioned_run.specs.Logged.{Itself, Others}
 use Rattle.partitioned_run.proofs.RecoveringLemmas.{back_at}
 use Rattle.partitioned_run.proofs.recovering.go_on.Goals as goal

@@ -4,7 +4,7 @@ use Rattle.std.proofs.lemmas.List.{length-map}
 use Rattle.scripts.specs.Reading.{contents_of}
 use Rattle.script_loading.specs.Loading.{empty_store}
 use Rattle.run_command.specs.Running.{begun, empty_stores}
-use Rattle.run_command.specs.declared.stop.Stop.TheVariants.{NoThread}
+use Rattle.run_log.specs.declared.stop.Stop.TheVariants.{NoThread}
 use Rattle.partitioned_run.specs.Logged.{front_lines}
 use Rattle.partitioned_run.proofs.RecoveringLemmas.{kept_starts}
 use Rattle.partitioned_run.proofs.ReportingLemmas.{all_run, ran_apart, stopped_so}

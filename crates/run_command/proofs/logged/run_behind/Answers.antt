@@ -5,8 +5,8 @@ use Rattle.base_records.proofs.BaseLemmas.{begun_count}
 use Rattle.run_command.proofs.LoggedLemmas.{lent_whole}
 use Rattle.std.proofs.lemmas.List.{length-map}
 use Rattle.std.proofs.lemmas.Result.{IfOk-weaker}
-use Rattle.run_command.specs.Logged.{IsLogRefusal, IsRunOn, Unopened, Refused, Behind}
-use Rattle.run_command.specs.Recovering.{IsBackTo}
+use Rattle.run_log.specs.Recovering.{IsLogRefusal, IsBackTo}
+use Rattle.run_command.specs.Logged.{IsRunOn, Unopened, Refused, Behind}
 use Rattle.run_command.proofs.logged.run_behind.Goals as goal
 
 pub returns-in-Some : goal.returns-in-Some

@@ -1,6 +1,0 @@
-use Rattle.std.proofs.Common.{take}
-use Rattle.run_command.specs.Anew.{AreAllRows}
-use Rattle.run_command.proofs.anew.base_of.Given as goal
-
-abbrev pub invariant-dcs : goal.invariant-dcs
-invariant-dcs l = AreAllRows (take l.dc-index l.dcs) l.base.items

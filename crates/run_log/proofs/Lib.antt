@@ -1,0 +1,2 @@
+pub mod AnewLemmas
+pub mod RecoveringLemmas

@@ -1,0 +1,6 @@
+pub mod Stops
+pub mod Kept
+pub mod Anew
+pub mod LogLines
+pub mod Recovering
+pub mod Joining
