@@ -4,9 +4,9 @@ use Rattle.std.specs.Prelude.{IfSome, ◌≤◌, ◌⊎◌, ◌++◌, decimal}
 use Rattle.disk_file.specs.declared.opening.FileKind.{FileKind}
 use Rattle.run_log.specs.LogLines.{kind_refusal}
 use Rattle.log_part.specs.declared.part.Part.{Part}
-use Rattle.procd.specs.Streams.{Stream, stream, IsKept, Begins, Ends, Runs, IsLog, IsRefusedBy, FurtherFails, ScriptFails, LogFails, PartFails, followed_part}
-use Rattle.procd.specs.Streams.{IsFollowed, StopsBehind, Refused, RefusedInPart, NotPrinted, NotRead, OutOfMemory}
-use Rattle.procd.specs.Streams.{TellsUnread, TellsUnwritten, IsToldOrNoMemory}
+use Rattle.program_files.specs.Streams.{Stream, stream, IsKept, Begins, TellsUnread, TellsUnwritten, IsToldOrNoMemory}
+use Rattle.program_files.specs.Following.{IsFollowed, StopsBehind, Refused, RefusedInPart, NotPrinted, NotRead, OutOfMemory}
+use Rattle.procd.specs.Streams.{Ends, Runs, IsLog, IsRefusedBy, FurtherFails, ScriptFails, LogFails, PartFails, followed_part}
 use Rattle.procd.specs.Joining.Further.{Keeps, Reads, Writes}
 use Rattle.command_line.specs.Task.{Wish, Exec, Asm, Dis, Verify, World, Run, Partitioned, Log}
 use Rattle.command_line.specs.Task.{Events, EventsAndRows, Follow, Audit, Picture}

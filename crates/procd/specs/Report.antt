@@ -1,8 +1,5 @@
 -- What is printed, and the exit status.
-use Rattle.std.specs.Prelude.{◌≡◌, ℕ, Bool, true, false, List, [], ◌∷◌, take, Option, Some, None, is_some}
-use Rattle.std.specs.Str.{IsUtf8}
-use Rattle.procd.specs.declared.reading.TextFault.{TextFault}
-use Rattle.procd.specs.declared.reading.TextFault.TheVariants.{NotUtf8, Marked}
+use Rattle.std.specs.Prelude.{ℕ, Bool, true, false, List, Option, Some, None, is_some}
 use Rattle.bpf_asm.specs.Lines.{assembled}
 use Rattle.command_line.specs.Task.{Wish, Exec, Asm, Dis, Verify, World, Run, Partitioned, Log}
 use Rattle.command_line.specs.Task.{LogWish, Events, EventsAndRows, Follow, Audit, Picture}
@@ -22,15 +19,6 @@ use Rattle.run_command.specs.Logged.{IsLogged}
 use Rattle.partitioned_run.specs.Logged.{IsPartitionedRun}
 use Rattle.log_command.specs.LogReport.{IsListing, IsAudit}
 use Rattle.log_command.specs.PictureReport.{IsPicturing}
-
--- the byte order mark, U+FEFF in UTF-8
-abbrev pub byte_order_mark : List ℕ
-byte_order_mark = 239 ∷ 187 ∷ 191 ∷ []
-
--- why bytes aren't a text
-abbrev pub IsTextFault : List ℕ → TextFault → Type 0
-IsTextFault bytes NotUtf8 = ¬ (IsUtf8 bytes)
-IsTextFault bytes Marked = take 3 bytes ≡ byte_order_mark
 
 -- a run whose log is kept, by some journal
 abbrev pub IsKeptRun : Checkpoints → ℕ → ℕ → Bool → Bool → Beginning → ℕ → List ℕ → Type 0

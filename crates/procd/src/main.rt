@@ -13,13 +13,9 @@
 //! `docs/FORMATS.md` has all lines and statuses.
 #![tactic(auto)]
 
-mod explaining;
-mod following;
 mod program;
-mod reading;
 mod report;
 mod streams;
-mod writing;
 
 use program::{no_memory, not_text, program};
 use std::env;

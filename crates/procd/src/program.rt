@@ -4,28 +4,29 @@ ghost use Rattle.std.specs.Prelude.{◌≡◌, ◌++◌, ℕ, List, Option, IfOk
 ghost use Rattle.std.specs.Prelude.{codes, map, string_bytes};
 ghost use Rattle.command_line.specs.Said.{Says, IsWrong, shows};
 ghost use Rattle.command_line.specs.Wanted.{WantsOrNoMemory, IsWrongOrNoMemory};
-ghost use Rattle.procd.specs.Streams.{stream, TellsIf, IsKept, Begins, Ends, Runs, IsMisuse, followed_part};
+ghost use Rattle.program_files.specs.Streams.{stream, Begins, IsFaultLine};
+ghost use Rattle.program_files.specs.Streams.{TellsUnread, TellsUnwritten, TellsNotPrinted, IsToldOrNoMemory};
+ghost use Rattle.program_files.specs.Following.{IsFollowed};
 ghost use Rattle.run_log.specs.LogLines.{kind_refusal};
-ghost use Rattle.procd.specs.Streams.{IsLog, IsFollowed, IsRefusedBy, IsFaultLine, TellsUnread};
-ghost use Rattle.procd.specs.Streams.{TellsUnwritten, TellsNotPrinted, IsToldOrNoMemory, PartFails};
+ghost use Rattle.procd.specs.Streams.{TellsIf, Ends, Runs, IsMisuse, followed_part, IsLog, IsRefusedBy, PartFails};
 ghost use Rattle.procd.specs.Joining.Ways.{IsWay};
 ghost use Rattle.procd.specs.Joining.Further.{IsTaskFault};
 ghost use Rattle.procd.specs.Report.{IsReport};
 ghost use Rattle.command_line.specs.Task.{Wish, wish_of};
 ghost use Rattle.clap.specs.Words.{kind_of};
 
-use crate::explaining::explain;
-use crate::following::{End, follow};
-use crate::reading::{ReadFault, Reason, read_given};
 use crate::report::{ReportFault, report_on};
 use crate::streams::Streams;
-use crate::writing::tell;
 use clap::Error;
 use clap::error::ErrorKind;
 use command_line::words::{LogTask, Task, Wanted, WordFault, wanted_of};
 use disk_file::FileKind;
 use log_part::Part;
 use partitioned_run::running::file_of;
+use program_files::explaining::explain;
+use program_files::following::{End, follow};
+use program_files::reading::{ReadFault, Reason, read_given};
+use program_files::writing::tell;
 use report_texts::output::Output;
 use run_log::recovering::kind_refusal;
 use run_log::stop::Stop;
@@ -248,7 +249,7 @@ fn run_on<F: Files<File = File> + Clock + Wait, W: Write, E: Write>(
     ensures { IsFollowed path.now part (stream (W.contents streams.old.out) (W.contents streams.new.out))
         (stream (E.contents streams.old.err) (E.contents streams.new.err)) result }
 {
-    match follow(rt, alloc, path, part, streams) {
+    match follow(rt, alloc, path, part, &mut streams.out, &mut streams.err) {
         End::Refused(report) => match tell(&mut streams.out, report.lines.as_str()) {
             Ok(()) => report.status,
             Err(error) => cannot_write(alloc, &mut streams.err, error),

@@ -11,9 +11,7 @@ ghost use Rattle.procd.specs.Joining.Further.{IsApartFault, IsBesideFault, IsRun
 ghost use Rattle.procd.specs.Joining.Further.{IsPictureFault, IsSourceOf};
 ghost use Rattle.command_line.specs.Task.{Log, Audit, Picture, log_wish, wish_of};
 
-use crate::reading::{ReadFault, Reason, TextFault, read_file, text_of};
 use crate::streams::Meanwhile;
-use crate::writing::tell;
 use command_line::words::{LogTask, PartitionedTask, RunTask, Task};
 use log_command::auditing::auditing;
 use log_command::listing::listing;
@@ -22,6 +20,8 @@ use log_part::Part;
 use object_file::is_elf;
 use partitioned_run::fault::Fault;
 use partitioned_run::running::running_partitioned;
+use program_files::reading::{ReadFault, Reason, TextFault, read_file, text_of};
+use program_files::writing::tell;
 use report_texts::output::Output;
 use run_command::logged::running_logged;
 use run_command::running::{Listeners, Manner, RunOptions, running};

@@ -1,7 +1,7 @@
 -- Why there is no report: no text was read, or a further file isn't read or written, which keeps a run's log, has procedures beside FILE or
 -- is to have a picture.
 use Rattle.std.specs.Prelude.{◌≡◌, ◌⊎◌, true, Bool, not, List, ℕ, Option, Some, None, option_map}
-use Rattle.procd.specs.Report.{IsTextFault}
+use Rattle.program_files.specs.Texts.{IsTextFault}
 use Rattle.command_line.specs.Task.{Wish, Verify, World, Run, Partitioned, Log, Audit, Picture, reads_text}
 use Rattle.object_file.specs.Elf.{is_elf}
 use Rattle.script_loading.specs.declared.loading.Source.{Source}

@@ -1,5 +1,5 @@
 use Rattle.std.proofs.Common.{[], subst, ◌∙◌}
-use Rattle.procd.specs.Streams.{Begins}
+use Rattle.program_files.specs.Streams.{Begins}
 use Rattle.procd.proofs.program.cannot_write.Goals as goal
 
 pub returns-in-Ok-clause-told : goal.returns-in-Ok-clause-told

@@ -1,5 +1,5 @@
 use Rattle.std.proofs.Common.{refl, subst, ◌∙◌, inl}
-use Rattle.procd.specs.Streams.{Begins}
+use Rattle.program_files.specs.Streams.{Begins}
 use Rattle.procd.proofs.program.cannot_write_file.Goals as goal
 
 pub returns-in-Ok : goal.returns-in-Ok

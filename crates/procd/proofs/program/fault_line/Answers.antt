@@ -1,5 +1,5 @@
 use Rattle.std.specs.Prelude.{string_bytes}
-use Rattle.procd.proofs.Streaming.{if_ok_fault_line}
+use Rattle.program_files.proofs.Streaming.{if_ok_fault_line}
 use Rattle.procd.proofs.program.fault_line.Goals as goal
 
 pub returns : goal.returns

@@ -3,7 +3,8 @@ use Rattle.std.specs.Prelude.{string_bytes}
 use Rattle.command_line.specs.Task.{wish_of, wants_figures}
 use Rattle.procd.specs.Joining.Further.{Keeps, Reads, Writes}
 use Rattle.procd.specs.Report.{IsReport}
-use Rattle.procd.specs.Streams.{stream, Gets, Begins, TellsIf}
+use Rattle.program_files.specs.Streams.{stream, Gets, Begins}
+use Rattle.procd.specs.Streams.{TellsIf}
 use Rattle.procd.proofs.Faults.{unkept_ends, unread_ends, unwritten_ends}
 use Rattle.procd.proofs.program.tell_report.Goals as goal
 

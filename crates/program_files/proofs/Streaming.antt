@@ -6,7 +6,7 @@ use Rattle.std.proofs.Math.Seq.{take-append_seam, take-length}
 use Rattle.std.specs.Io.KnownBytes.{Appends, Keeps}
 use Rattle.std.proofs.KnownBytes.{Appends-kept, Appends-nil, Appends-trans}
 use Rattle.std.specs.Prelude.{Result, Ok, Err, IfOk, codes}
-use Rattle.procd.specs.Streams.{Stream, stream, Gets, Begins, IsFaultLine}
+use Rattle.program_files.specs.Streams.{Stream, stream, Gets, Begins, IsFaultLine}
 
 -- what is written of a text, and what is left of it
 pub moves_front : (text done rest : List ℕ) (n : ℕ) → text ≡ done ++ rest

@@ -1,6 +1,5 @@
 -- What is written where a log is followed.
 use Rattle.std.proofs.Common.{arith, length, ◌≡◌, ℕ, List, [], ◌∷◌, ◌++◌, take, Option, refl, sym, ◌∙◌, ap, subst, append_assoc, inl, inr, codes}
-use Rattle.std.specs.Prelude.{◌⊎◌, string_bytes}
 use Rattle.std.proofs.lemmas.List.{append-nil}
 use Rattle.std.proofs.KnownBytes.{Appends-nil, Appends-trans}
 use Rattle.log_part.specs.declared.part.Part.{Part}
@@ -9,12 +8,13 @@ use Rattle.log_command.specs.declared.following.Followed.{Followed}
 use Rattle.log_command.specs.LogReport.{IsUnread}
 use Rattle.log_command.specs.Following.{AreLines, HasPrinted, seam_line}
 use Rattle.log_command.proofs.FollowLemmas.{printed_lines, no_lines}
-use Rattle.procd.specs.Streams.{Stream, stream, IsKept, Gets, Begins, TellsSeams, seam_parts, TellsUnread, TellsNotPrinted, IsToldOrNoMemory, IsFollowed}
-use Rattle.procd.specs.Streams.{Refused, RefusedInPart, NotPrinted, NotRead, OutOfMemory}
-use Rattle.procd.specs.Joining.Followed.{IsReadEnd, EndsBy, EndsBehind}
-use Rattle.procd.specs.declared.following.End.{End}
-use Rattle.procd.specs.declared.following.End.TheVariants as end
-use Rattle.procd.proofs.Streaming.{begins_behind}
+use Rattle.program_files.specs.Streams.{Stream, stream, Gets, Begins, TellsUnread, TellsNotPrinted, IsToldOrNoMemory}
+use Rattle.program_files.specs.Following.{TellsSeams, seam_parts, EndsBy, EndsBehind, IsFollowed}
+use Rattle.program_files.specs.Following.{Refused, RefusedInPart, NotPrinted, NotRead, OutOfMemory}
+use Rattle.program_files.specs.Joining.Followed.{IsReadEnd}
+use Rattle.program_files.specs.declared.following.End.{End}
+use Rattle.program_files.specs.declared.following.End.TheVariants as end
+use Rattle.program_files.proofs.Streaming.{begins_behind}
 
 -- ---- what wasn't seen
 

@@ -1,7 +1,7 @@
 use Rattle.std.proofs.Common.{◌∙◌, subst}
-use Rattle.procd.specs.Streams.{Begins}
-use Rattle.procd.proofs.FollowEnds.{one_seam}
-use Rattle.procd.proofs.following.renew.Goals as goal
+use Rattle.program_files.specs.Streams.{Begins}
+use Rattle.program_files.proofs.FollowEnds.{one_seam}
+use Rattle.program_files.proofs.following.renew.Goals as goal
 
 pub returns-in_ok-missing-in-Followed-clause-told : goal.returns-in_ok-missing-in-Followed-clause-told
 returns-in_ok-missing-in-Followed-clause-told g c =

@@ -1,6 +1,6 @@
 use Rattle.std.specs.Prelude.{◌≤◌, length}
 use Rattle.std.specs.Io.KnownBytes.{Consumes}
-use Rattle.procd.proofs.reading.read_all.Given as goal
+use Rattle.program_files.proofs.reading.read_all.Given as goal
 
 -- what was read is what is gone from the reader, and no more than is read at most
 abbrev pub invariant-loop : goal.invariant-loop

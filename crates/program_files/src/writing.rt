@@ -2,7 +2,7 @@
 
 ghost use Rattle.std.specs.Prelude.{◌≡◌, ◌≤◌, IfOk, OnOk, length, take};
 ghost use Rattle.std.specs.Io.KnownBytes.{Appends};
-ghost use Rattle.procd.specs.Streams.{stream, written, Gets, Begins};
+ghost use Rattle.program_files.specs.Streams.{stream, written, Gets, Begins};
 
 use std::io::{self, Write};
 

@@ -3,11 +3,11 @@
 ghost use Rattle.std.specs.Prelude.{◌++◌, ℕ, List, IfOk, IfErr, string_bytes};
 ghost use Rattle.log_part.specs.declared.part.Part.{Part as PartValue};
 ghost use Rattle.log_command.specs.Following.{HasPrinted};
-ghost use Rattle.procd.specs.Streams.{stream, TellsSeams};
-ghost use Rattle.procd.specs.Joining.Followed.{IsReadEnd, EndsBehind};
+ghost use Rattle.program_files.specs.Streams.{stream};
+ghost use Rattle.program_files.specs.Following.{TellsSeams, EndsBehind};
+ghost use Rattle.program_files.specs.Joining.Followed.{IsReadEnd};
 
 use crate::reading::{ReadFault, Reason, most_of, read_all};
-use crate::streams::Streams;
 use crate::writing::tell;
 use log_command::following::{Begun, Followed, begin, seam_line, unread};
 use log_part::Part;
@@ -38,7 +38,7 @@ pub enum End {
 
 impl From<AllocError> for End {
     ghost use Rattle.std.specs.Prelude.{◌≡◌};
-    ghost use Rattle.procd.specs.declared.following.End.TheVariants.{Memory};
+    ghost use Rattle.program_files.specs.declared.following.End.TheVariants.{Memory};
 
     ghost from_gives = { λ _ e. e ≡ Memory };
 
@@ -216,21 +216,22 @@ pub fn follow<F: Files<File = File> + Clock + Wait, W: Write, E: Write>(
     alloc: Global,
     path: &str,
     part: Part,
-    streams: &mut Streams<W, E>,
+    out: &mut W,
+    err: &mut E,
 ) -> End
-    ensures { EndsBehind part (stream (W.contents streams.old.out) (W.contents streams.new.out))
-        (stream (E.contents streams.old.err) (E.contents streams.new.err)) result }
+    ensures { EndsBehind part (stream (W.contents out.old) (W.contents out.new))
+        (stream (E.contents err.old) (E.contents err.new)) result }
 {
     let (mut source, mut lines) = match begun(rt, alloc, path, part) {
         Ok(begun) => begun,
         Err(end) => return end,
     };
     'looks: for _ in rt.forever() {
-        if let Err(error) = tell(&mut streams.out, lines.as_str()) {
+        if let Err(error) = tell(out, lines.as_str()) {
             return End::Unwritten(error);
         }
         thread::sleep(rt, Duration::from_millis(PAUSE));
-        lines = match look(rt, alloc, path, &mut source, &mut streams.err) {
+        lines = match look(rt, alloc, path, &mut source, err) {
             Ok(lines) => lines,
             Err(end) => return end,
         };

@@ -3,8 +3,8 @@ use Rattle.std.specs.Prelude.{string_bytes}
 use Rattle.std.proofs.lemmas.Bool.{eqb-true}
 use Rattle.std.proofs.lemmas.List.{append-nil}
 use Rattle.log_command.specs.Following.{HasPrinted}
-use Rattle.procd.proofs.FollowEnds.{no_bytes}
-use Rattle.procd.proofs.following.look.Goals as goal
+use Rattle.program_files.proofs.FollowEnds.{no_bytes}
+use Rattle.program_files.proofs.following.look.Goals as goal
 
 pub returns-in-Ok-true-clause-ok : goal.returns-in-Ok-true-clause-ok
 returns-in-Ok-true-clause-ok g c = λ part file printed has.

@@ -1,6 +1,6 @@
 use Rattle.std.proofs.Common.{◌≡◌, List, ℕ, ◌++◌}
 use Rattle.std.specs.Io.KnownBytes.{Appends}
-use Rattle.procd.proofs.writing.tell.Given as goal
+use Rattle.program_files.proofs.writing.tell.Given as goal
 
 -- what is gone from `rest` was written
 abbrev pub invariant-loop : goal.invariant-loop

@@ -1,10 +1,10 @@
-use Rattle.std.proofs.Common.{◌≡◌, ℕ, List, ◌++◌, take, refl, sym, subst}
+use Rattle.std.proofs.Common.{◌≡◌, ℕ, List, ◌++◌, refl, sym, subst}
 use Rattle.std.specs.Prelude.{string_bytes}
 use Rattle.log_command.specs.declared.following.Followed.{Followed}
 use Rattle.log_command.specs.Following.{HasPrinted}
 use Rattle.log_command.proofs.FollowLemmas.{read_or_waiting}
-use Rattle.procd.proofs.following.read_on.Goals.{then-not-is_empty, else-not-is_empty+then-not-source+in_ok-judge, else-not-is_empty+else-not-source}
-use Rattle.procd.proofs.following.read_on.Goals as goal
+use Rattle.program_files.proofs.following.read_on.Goals.{then-not-is_empty, else-not-is_empty+then-not-source+in_ok-judge, else-not-is_empty+else-not-source}
+use Rattle.program_files.proofs.following.read_on.Goals as goal
 
 pub returns-clause-ok : goal.returns-clause-ok
 returns-clause-ok c = λ part file printed has.

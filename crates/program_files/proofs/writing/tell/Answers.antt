@@ -1,7 +1,7 @@
 use Rattle.std.proofs.Common.{◌++◌, take, rules}
 use Rattle.std.proofs.KnownBytes.{Appends-trans}
-use Rattle.procd.proofs.Streaming.{begins_by, moves_front}
-use Rattle.procd.proofs.writing.tell.Goals as goal
+use Rattle.program_files.proofs.Streaming.{begins_by, moves_front}
+use Rattle.program_files.proofs.writing.tell.Goals as goal
 
 pub returns-then-is_empty-clause-part : goal.returns-then-is_empty-clause-part
 returns-then-is_empty-clause-part g c =

@@ -1,0 +1,4 @@
+pub mod Texts
+pub mod Streams
+pub mod Following
+pub mod Joining
