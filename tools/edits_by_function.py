@@ -17,7 +17,7 @@ import sys
 import tempfile
 
 from built import TOP, uses
-from unproved import Failed, kit
+from unproved import Failed, below, kit
 
 MORE = "more-edits"
 OF = re.compile(r"(?m)^of: (.+)$")
@@ -82,7 +82,7 @@ def command(crate, functions, kit_at):
     words = [f"{kit_at}/bin/rattle", "check", "--crate-name", crate, "--extern", f"std={kit_at}/rlibs/std.rlib"]
     for name in known[crate]:
         words += ["--extern", f"{name}={built(name) if name in known else f'{kit_at}/rlibs'}/{name}.rlib"]
-    for place in [f"{kit_at}/rlibs", *(built(name) for name in known[crate] if name in known)]:
+    for place in [f"{kit_at}/rlibs", *map(built, below(crate, known))]:
         words += ["-L", f"dependency={place}"]
     words += ["--antt-project", f"{kit_at}/rattle/logic/antt-project.json", "--logic-built", f"{kit_at}/logic_built"]
     words += ["--links", f"{crate}=", "--jobs", "1"]
