@@ -22,8 +22,9 @@ from unproved import Failed, below, kit
 MORE = "more-edits"
 OF = re.compile(r"(?m)^of: (.+)$")
 ENDED = re.compile(r"(?m)^only=\d+ proved=\d+$")
-# What a check says of a function, and of one that it refuses for what that calls.
+# What a check says of a function: that it is proved, also that it may wait, or that it isn't for what it calls.
 JUDGED = re.compile(r"(?m)^fn (\S+): (.*)$")
+PROVED = re.compile(r"proved(,|$)")
 CALLS = re.compile(r"; it calls |: it calls ")
 OWN = "did not prove"
 # What the front end says of a text that the prover never reads.
@@ -109,7 +110,7 @@ def judged(crate, edits, kit_at, kept):
 
 def is_refused(edit, found, is_alone):
     """Whether one of its functions is refused for its own body, where that is plain, or nothing else can be the reason."""
-    said = [how for it in functions_of(edit) for how in found[it] if how != "proved"]
+    said = [how for it in functions_of(edit) for how in found[it] if not PROVED.match(how)]
     return any(is_alone or OWN in how or not CALLS.search(how) for how in said)
 
 
