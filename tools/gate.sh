@@ -28,8 +28,8 @@ for tool in make cc ar; do
 done
 [ -z "$missing" ] || echo "gate: the library for C and packages are left out, since there is no$missing"
 
-# What is tried beside `rt ci`, once a crate is proved: what takes turns with a clock behind one of the last, where
-# processors are idle.
+# What is tried beside `rt ci`, each once a crate is proved. The library for C waits for one of the last crates: some of its tests
+# look at the clock, and only then processors are idle.
 beside() {
     if [ -z "$missing" ]; then
         echo "once run_command tools/archive.py && make -s -C c_interface check"
