@@ -28,11 +28,11 @@ for tool in make cc ar; do
 done
 [ -z "$missing" ] || echo "gate: the library for C and packages are left out, since there is no$missing"
 
-# What is tried beside `rt ci`, each once a crate is proved. The library for C waits for one of the last crates: some of its tests
-# look at the clock, and only then processors are idle.
+# What is tried beside `rt ci`, each once its crates are proved. The library for C waits for one of the last ones as well: some of
+# its tests look at the clock, and only then processors are idle.
 beside() {
     if [ -z "$missing" ]; then
-        echo "once run_command tools/archive.py && make -s -C c_interface check"
+        echo "once mazzulpe,run_command tools/archive.py && make -s -C c_interface check"
     fi
     tools/edits_by_function.py --list | while read -r edit; do
         echo "once ${edit%%/*} tools/edits_by_function.py $edit"

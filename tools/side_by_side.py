@@ -4,9 +4,9 @@
   tools/side_by_side.py [--most N] [--following FILE] < COMMANDS
 
 COMMANDS has a line each, for sh, in this repository's folder; N run at once at most, one a processor if it isn't given. A line
-that begins with `then ` waits for the one before it. One that begins with `once CRATE ` waits until FILE, which gets what
-`rt ci` prints, says that the crate is proved or kept, and fails where a line `gate: ..` comes without that. Where whoever called
-this is gone, no other begins. The last line is `N passed, M failed`, and the status is 1 where one failed.
+that begins with `then ` waits for the one before it. One that begins with `once CRATE[,CRATE..] ` waits until FILE, which gets
+what `rt ci` prints, says of each that it is proved or kept, and fails where a line `gate: ..` comes without that. Where whoever
+called this is gone, no other begins. The last line is `N passed, M failed`, and the status is 1 where one failed.
 """
 import argparse
 import concurrent.futures
@@ -54,26 +54,26 @@ def all_ran(chain):
 def not_run(chain):
     """Says that these weren't run."""
     for command in chain:
-        print(f"-- {command}: its crate isn't proved", flush=True)
+        print(f"-- {command}: what it waits for isn't proved", flush=True)
     return [False] * len(chain)
 
 
-def crate_and_chain(chain):
-    """The crate that these wait for, if they wait for one, and their commands."""
+def crates_and_chain(chain):
+    """The crates that these wait for, and their commands."""
     if not chain[0].startswith(ONCE):
-        return None, chain
-    _, crate, first = chain[0].split(maxsplit=2)
-    return crate, [first, *chain[1:]]
+        return set(), chain
+    _, crates, first = chain[0].split(maxsplit=2)
+    return set(crates.split(",")), [first, *chain[1:]]
 
 
 def followed(file, left, pool):
-    """Runs these, each once the file says that its crate is proved; answers of each command whether it ended well."""
-    begun, proved, said, caller = [], {None}, "", os.getppid()
+    """Runs these, each once the file says that its crates are proved; answers of each command whether it ended well."""
+    begun, proved, said, caller = [], set(), "", os.getppid()
     while left or not all(it.done() for it in begun):
         said = said[said.rfind("\n") + 1:] + file.read()
         proved |= set(PROVED.findall(said))
-        begun += [pool.submit(all_ran, chain) for crate, chain in left if crate in proved]
-        left = [it for it in left if it[0] not in proved]
+        begun += [pool.submit(all_ran, chain) for crates, chain in left if crates <= proved]
+        left = [it for it in left if not it[0] <= proved]
         if OVER.search(said):
             begun += [pool.submit(not_run, chain) for _, chain in left]
             left = []
@@ -89,7 +89,7 @@ def main():
     parser.add_argument("--most", type=int, default=len(os.sched_getaffinity(0)))
     parser.add_argument("--following", default=os.devnull)
     options = parser.parse_args()
-    given = [crate_and_chain(chain) for chain in chains(sys.stdin)]
+    given = [crates_and_chain(chain) for chain in chains(sys.stdin)]
     with open(options.following, encoding="utf-8", errors="replace") as file:
         with concurrent.futures.ThreadPoolExecutor(options.most) as pool:
             passed = followed(file, given, pool)
