@@ -16,7 +16,7 @@
 //! What they compare stands in `checks`.
 //!
 //! `lower_tests` has those that need neither `samples` nor the transaction component, `upper_tests` those of
-//! `log_file` and `embedding`. `rt test component_tests` proves and runs these; `tools/requests.py` runs them
+//! `log_file` and `embedding`. `rt test component_tests` proves and runs these; `tools/memory_requests.py` runs them
 //! with memory refused.
 #![tactic(auto)]
 

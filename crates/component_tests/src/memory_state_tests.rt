@@ -1,5 +1,5 @@
 // A loading and an admission that are refused memory once, and are then made again: the state that they
-// were refused on is as before. tools/requests.py refuses each request in turn.
+// were refused on is as before. tools/memory_requests.py refuses each request in turn.
 
 use crate::checks::is_same;
 use samples::{PUT, call, put_procedure};

@@ -1,5 +1,5 @@
 // Calls that ask for memory. Each is made again where it is refused for want of it: so each test
-// passes wherever one request of its run is refused, and tools/requests.py refuses each in turn.
+// passes wherever one request of its run is refused, and tools/memory_requests.py refuses each in turn.
 
 ghost use Rattle.std.specs.Prelude.{◌≤◌, OnOk};
 

@@ -16,7 +16,7 @@
 //! | `restart_tests` | data components that restart while calls run |
 //! | `memory_tests` | runs that are refused memory |
 //!
-//! `rt test pool_tests` proves and runs these; `tools/requests.py` runs them with memory refused.
+//! `rt test pool_tests` proves and runs these; `tools/memory_requests.py` runs them with memory refused.
 #![tactic(auto)]
 
 #[cfg(test)]

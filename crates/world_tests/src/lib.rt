@@ -15,7 +15,7 @@
 //!
 //! What they compare stands in `checks`.
 //!
-//! `rt test world_tests` proves and runs these; `tools/requests.py` runs them with memory refused.
+//! `rt test world_tests` proves and runs these; `tools/memory_requests.py` runs them with memory refused.
 #![tactic(auto)]
 
 #[cfg(test)]

@@ -1,5 +1,5 @@
 // Steps of a world that are refused memory once, and are then taken again: what they were refused on is
-// as before. tools/requests.py refuses each request in turn.
+// as before. tools/memory_requests.py refuses each request in turn.
 
 use crate::checks::is_same;
 use crate::step_tests::{closed, opened};
