@@ -49,7 +49,7 @@ GROUPS = [
     ("a call through a frame of plain numbers", "embedding"),
     (
         "what the program prints, on both streams, and for which words",
-        "command_line report_texts text_commands script_loading state_lines world_command run_metrics run_log run_command partitioned_run log_picture log_part log_command program_files procd",
+        "command_line report_texts text_commands script_loading state_lines world_command run_metrics run_ground run_calls run_log run_command partitioned_run log_picture log_part log_command program_files procd",
     ),
 ]
 

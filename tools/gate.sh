@@ -32,7 +32,7 @@ done
 # its tests look at the clock, and only then processors are idle.
 beside() {
     if [ -z "$missing" ]; then
-        echo "once mazzulpe,run_command tools/archive.py && make -s -C c_interface check"
+        echo "once mazzulpe,partitioned_run tools/archive.py && make -s -C c_interface check"
     fi
     tools/edits_by_function.py --list | while read -r edit; do
         echo "once ${edit%%/*} tools/edits_by_function.py $edit"

@@ -14,7 +14,7 @@ use Rattle.partitions.specs.Partitions.{AllReach, ArePartitions, Reaches, partit
 use Rattle.partitions.specs.Picking.{own_item, picked}
 use Rattle.partitions.proofs.Picks.{picked_none, picked_push}
 use Rattle.scripts.specs.declared.script.Call.{Call}
-use Rattle.run_command.specs.Answered.{AreCallsOf, said_call, AreAnswered, AreServed}
+use Rattle.run_calls.specs.Answered.{AreCallsOf, said_call, AreAnswered, AreServed}
 use Rattle.tc_core.specs.Admission.{call_of}
 use Rattle.tc_core.specs.declared.state.Call.{Call as Made}
 use Rattle.tc_core.specs.Loaded.{Loaded, AllReach as CodesReach}
@@ -22,17 +22,16 @@ use Rattle.verifier.specs.Checked.{Checked}
 use Rattle.data_component.specs.Store.{Store}
 use Rattle.scripts.specs.Reading.{Contents, contents_of}
 use Rattle.scripts.specs.declared.script.Script.{Script}
-use Rattle.script_loading.specs.Loading.{first_unverified}
+use Rattle.script_loading.specs.Loading.{first_unverified, begun, empty_stores}
 use Rattle.tc_core.specs.Core.{Core, loaded_in}
-use Rattle.run_command.specs.Running.{begun, empty_stores}
-use Rattle.run_log.specs.declared.anew.Ground.{Ground}
-use Rattle.run_command.specs.declared.answering.Answers.{Answers}
-use Rattle.run_log.specs.declared.stop.Stop.{Stop}
+use Rattle.run_ground.specs.declared.ground.Ground.{Ground}
+use Rattle.run_calls.specs.declared.answering.Answers.{Answers}
+use Rattle.run_ground.specs.declared.stop.Stop.{Stop}
 use Rattle.partitioned_run.specs.declared.answering.PartitionOutcome.{PartitionOutcome}
 use Rattle.partitioned_run.specs.declared.dividing.Division.{Division}
 use Rattle.partitioned_run.specs.Partitioned.{decl_of, partition_of_call, partition_of_code}
 use Rattle.worker_pool.specs.declared.answer.Answer.{Answer}
-use Rattle.run_log.specs.Kept.{KeepsLog}
+use Rattle.run_ground.specs.Kept.{KeepsLog}
 use Rattle.partitioned_run.specs.Partitioned.{IsAnsweredBy, IsAnsweredPart}
 use Rattle.partitioned_run.specs.Logged.{IsKeptBy, IsRunFrom}
 use Rattle.partitioned_run.specs.Joining.Dividing.{AreNumbered, IsAnsweredOn, IsDivided, IsGroundRun, IsKeptIf, IsRunOf}

@@ -10,8 +10,8 @@ use Rattle.audit.proofs.GivenLemmas.{push_at}
 use Rattle.data_component.specs.Store.{Store}
 use Rattle.partitions.specs.Partitions.{partition_at}
 use Rattle.tc_core.specs.Core.{Core}
-use Rattle.run_log.specs.Kept.{FileJournal, KeepsLog}
-use Rattle.run_log.specs.declared.anew.Ground.{Ground}
+use Rattle.run_ground.specs.Kept.{FileJournal, KeepsLog}
+use Rattle.run_ground.specs.declared.ground.Ground.{Ground}
 use Rattle.run_log.specs.declared.recovering.OpenLog.{OpenLog}
 use Rattle.run_log.specs.declared.recovering.RecoveredRun.{RecoveredRun}
 use Rattle.run_log.specs.Recovering.{IsBackFrom, IsOpened}
@@ -21,7 +21,7 @@ use Rattle.partitioned_run.specs.declared.grounds.Start.{Start}
 use Rattle.partitioned_run.specs.Logged.{front_by, front_lines, front_of, AreStarts, IsBackAt, IsStart}
 use Rattle.partitioned_run.specs.Joining.Dividing.{IsKeptIf}
 use Rattle.partitioned_run.specs.Joining.Recovering.{IsRecovered, IsRecoveredFrom, IsRefusedAt}
-use Rattle.run_command.specs.Running.{begun, empty_stores}
+use Rattle.script_loading.specs.Loading.{begun, empty_stores}
 use Rattle.run_log.specs.declared.recovering.Recovery.{Recovery}
 use Rattle.run_log.specs.declared.recovering.Recovery.TheVariants.{Ready, Refused}
 use Rattle.scripts.specs.Reading.{Contents}

@@ -16,7 +16,7 @@ use Rattle.scripts.specs.declared.script.Dc.{Dc}
 use Rattle.scripts.specs.declared.script.Procedure.{Procedure}
 use Rattle.scripts.specs.declared.script.Step.{Step}
 use Rattle.scripts.specs.declared.script.Call as said
-use Rattle.script_loading.specs.Loading.{Beginning, empty_store, first_unverified, IsAccepted, IsAcceptanceOf}
+use Rattle.script_loading.specs.Loading.{Beginning, empty_store, first_unverified, IsAccepted, IsAcceptanceOf, begun, empty_stores}
 use Rattle.script_loading.specs.declared.loading.Acceptance.{Acceptance}
 use Rattle.script_loading.specs.declared.loading.Acceptance.TheVariants as accepted
 use Rattle.scripts.specs.declared.script.Script.{Script}
@@ -28,12 +28,11 @@ use Rattle.tc_core.specs.Admission.{call_of}
 use Rattle.tc_core.specs.Core.{Core}
 use Rattle.tc_core.specs.declared.state.Call.{Call}
 use Rattle.worker_pool.specs.declared.answer.Answer.{Answer}
-use Rattle.run_log.specs.declared.anew.Ground.{Ground}
-use Rattle.run_command.specs.Answered.{AreCallsOf, said_call}
-use Rattle.run_command.specs.AnswerLines.{answer_lines, fault_line}
-use Rattle.run_command.specs.Running.{begun, empty_stores, is_want_of_memory}
-use Rattle.run_command.specs.Stops.{Stops}
-use Rattle.run_log.specs.declared.stop.Stop.{Stop}
+use Rattle.run_ground.specs.declared.ground.Ground.{Ground}
+use Rattle.run_calls.specs.Answered.{AreCallsOf, said_call, is_want_of_memory}
+use Rattle.run_calls.specs.AnswerLines.{answer_lines, fault_line}
+use Rattle.run_calls.specs.Stops.{Stops}
+use Rattle.run_ground.specs.declared.stop.Stop.{Stop}
 use Rattle.worker_pool.specs.Faults.{InRange}
 use Rattle.partitioned_run.specs.declared.answering.PartitionOutcome.{PartitionOutcome}
 use Rattle.partitioned_run.specs.declared.dividing.Division.{Division}

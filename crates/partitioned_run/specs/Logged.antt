@@ -9,14 +9,13 @@ use Rattle.log_file.specs.Bytes.{Rows}
 use Rattle.partitions.specs.Partitions.{partition_at, ArePartitions}
 use Rattle.scripts.specs.Reading.{Contents}
 use Rattle.scripts.specs.declared.script.Call as said
-use Rattle.script_loading.specs.Loading.{Beginning}
+use Rattle.script_loading.specs.Loading.{Beginning, begun, empty_stores}
 use Rattle.tc_core.specs.Core.{Core}
 use Rattle.tc_log.specs.declared.event.Event.{Event}
 use Rattle.worker_pool.specs.declared.answer.Answer.{Answer}
-use Rattle.run_log.specs.declared.anew.Ground.{Ground}
-use Rattle.run_log.specs.Kept.{FileJournal, KeepsLog}
+use Rattle.run_ground.specs.declared.ground.Ground.{Ground}
+use Rattle.run_ground.specs.Kept.{FileJournal, KeepsLog}
 use Rattle.run_log.specs.Recovering.{IsLogFor, IsLogRefusal, IsBackTo}
-use Rattle.run_command.specs.Running.{begun, empty_stores}
 use Rattle.partitioned_run.specs.declared.grounds.Start.{Start}
 use Rattle.partitioned_run.specs.Belonging.{other_line, IsLogOfPartition, IsLogOfOther}
 use Rattle.partitioned_run.specs.Partitioned.{decl_of, AreRunApart, IsAnsweredBy, IsAnsweredPart, IsCallsRunApart, IsRunApart}

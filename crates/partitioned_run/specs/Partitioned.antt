@@ -15,12 +15,12 @@ use Rattle.tc_core.specs.declared.state.Call.{Call}
 use Rattle.verifier.specs.Checked.{Checked}
 use Rattle.worker_pool.specs.Faults.{InRange}
 use Rattle.worker_pool.specs.declared.answer.Answer.{Answer}
-use Rattle.run_log.specs.declared.anew.Ground.{Ground}
-use Rattle.run_log.specs.declared.stop.Stop.{Stop}
-use Rattle.run_command.specs.AnswerLines.{answer_lines, fault_line}
-use Rattle.run_command.specs.Answered.{AreCallsOf, AreAnswered, AreServed}
-use Rattle.run_command.specs.Running.{begun, empty_stores, is_want_of_memory}
-use Rattle.run_command.specs.Stops.{Stops}
+use Rattle.run_ground.specs.declared.ground.Ground.{Ground}
+use Rattle.run_ground.specs.declared.stop.Stop.{Stop}
+use Rattle.run_calls.specs.AnswerLines.{answer_lines, fault_line}
+use Rattle.run_calls.specs.Answered.{AreCallsOf, AreAnswered, AreServed, is_want_of_memory}
+use Rattle.script_loading.specs.Loading.{begun, empty_stores}
+use Rattle.run_calls.specs.Stops.{Stops}
 
 -- ---- which calls are of which partition
 

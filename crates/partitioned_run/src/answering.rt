@@ -5,15 +5,16 @@ ghost use Rattle.std.specs.Prelude.{◌≡◌, ◌++◌, length, map, option_map
 ghost use Rattle.scripts.specs.Reading.{contents_of};
 ghost use Rattle.tc_core.specs.Admission.{call_of};
 ghost use Rattle.partitions.specs.Picking.{own_item, picked};
-ghost use Rattle.run_command.specs.Answered.{AreCallsOf, said_call};
+ghost use Rattle.run_calls.specs.Answered.{AreCallsOf, said_call};
 ghost use Rattle.partitioned_run.specs.Logged.{IsKeptBy};
 ghost use Rattle.partitioned_run.specs.Joining.Dividing.{AreRun, IsDivided, IsGroundRun, IsKeptIf, IsPartitionRun, IsRunOf, IsStartRun};
 ghost use Rattle.partitioned_run.specs.declared.grounds.Start.{Start as StartValue};
 
 use crate::grounds::{Start, Task, own_ground};
-use run_command::running::{Answers, Manner, Rings, RunInput, answer_on, call_of};
-use run_log::anew::{Checkpoints, Ground};
-use run_log::stop::Stop;
+use run_calls::answering::{Answers, Manner, Rings, RunInput, answer_on};
+use run_calls::calls::call_of;
+use run_ground::ground::{Checkpoints, Ground};
+use run_ground::stop::Stop;
 use scripts::script;
 use std::alloc::{AllocError, Global};
 use std::sync::Wait;

@@ -1,6 +1,6 @@
 //! Why a run by partitions has no report.
 
-use run_log::stop::Stop;
+use run_ground::stop::Stop;
 use std::alloc::AllocError;
 
 /// Why there is no report.

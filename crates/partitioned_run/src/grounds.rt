@@ -2,12 +2,12 @@
 
 ghost use Rattle.std.specs.Prelude.{◌≡◌, option_map, None, IfOk};
 ghost use Rattle.scripts.specs.Reading.{contents_of};
-ghost use Rattle.script_loading.specs.Loading.{first_unverified};
-ghost use Rattle.run_command.specs.Running.{begun, empty_stores};
+ghost use Rattle.script_loading.specs.Loading.{first_unverified, begun, empty_stores};
 
 use crate::dividing::Division;
-use run_command::running::{Manner, Waits};
-use run_log::anew::Ground;
+use run_calls::answering::Manner;
+use run_calls::watching::Waits;
+use run_ground::ground::Ground;
 use script_loading::loading::{Unloaded, empty_dcs, state_of};
 use scripts::script::Script;
 use std::alloc::{AllocError, Global};

@@ -14,7 +14,7 @@ use crate::fault::Fault;
 use crate::grounds::{Start, Task, own_ground};
 use partitions::Partitions;
 use report_texts::output::Output;
-use run_log::anew::Ground;
+use run_ground::ground::Ground;
 use run_log::recovering::{OpenLog, RecoveredRun, Recovery, go_back, open_log};
 use std::alloc::{AllocError, Global};
 use std::fs::File;

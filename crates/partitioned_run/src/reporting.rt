@@ -2,10 +2,10 @@
 
 ghost use Rattle.std.specs.Prelude.{◌≡◌, ◌++◌, ◌&&◌, [], ◌∷◌, List, Result, false, if◌then◌else◌, IfOk, OnOk, codes, string_bytes};
 ghost use Rattle.std.specs.List.{list_any};
-ghost use Rattle.run_log.specs.declared.stop.Stop.{Stop as StopValue};
-ghost use Rattle.run_command.specs.AnswerLines.{answer_lines};
+ghost use Rattle.run_ground.specs.declared.stop.Stop.{Stop as StopValue};
+ghost use Rattle.run_calls.specs.AnswerLines.{answer_lines};
 ghost use Rattle.state_lines.specs.RowLines.{AddsRowLines};
-ghost use Rattle.run_command.specs.Running.{is_want_of_memory};
+ghost use Rattle.run_calls.specs.Answered.{is_want_of_memory};
 ghost use Rattle.partitioned_run.specs.Partitioned.{AddsAuditOf, AddsAudits, dc_behind, kept_dc, kept_dcs};
 ghost use Rattle.partitioned_run.specs.Joining.Reporting.{AreAllOf};
 ghost use Rattle.partitioned_run.specs.declared.answering.PartitionOutcome.{PartitionOutcome as OutcomeValue};
@@ -15,9 +15,11 @@ use crate::fault::Fault;
 use crate::recovering::file_of;
 use data_component::dc::Dc;
 use partitions::Partitions;
-use run_command::running::{has_want_of_memory, write_answers, write_found};
-use run_log::anew::Ground;
-use run_log::stop::Stop;
+use run_calls::answer_lines::write_answers;
+use run_calls::answering::has_want_of_memory;
+use run_ground::ground::Ground;
+use run_ground::stop::Stop;
+use state_lines::audit_lines::write_audit_if;
 use state_lines::row_lines::write_rows;
 use std::alloc::{AllocError, Global};
 use std::fs::File;
@@ -38,10 +40,12 @@ impl Outcomes {
     fn with_capacity(alloc: Global, count: usize) -> Result<Outcomes, AllocError>
         ensures { IfOk result (λ all. (all.grounds.items ≡ []) × (all.first.items ≡ []) × (all.calls.items ≡ [])) }
     {
+        let first = Vec::with_capacity(alloc, count)?;
+        let calls = Vec::with_capacity(alloc, count)?;
         Ok(Outcomes {
             grounds: Vec::with_capacity(alloc, count)?,
-            first: Vec::with_capacity(alloc, count)?,
-            calls: Vec::with_capacity(alloc, count)?,
+            first,
+            calls,
         })
     }
 
@@ -80,7 +84,13 @@ pub fn outcomes_of(
 ) -> Result<Outcomes, Fault>
     ensures { IfOk result (AreAllOf ran.items) }
 {
-    let mut all = Outcomes::with_capacity(alloc, ran.len())?;
+    let mut all = match Outcomes::with_capacity(alloc, ran.len()) {
+        Ok(none) => none,
+        Err(error) => {
+            drop(ran);
+            return Err(Fault::from(error));
+        }
+    };
     'runs: for next in ran {
         if let Err(fault) = add_next(&mut all, next) {
             drop(all);
@@ -158,7 +168,7 @@ fn write_audit_of(
     ensures { IfOk result (AddsAuditOf audit ground.now (string_bytes lines.old) (string_bytes lines.new)) }
 {
     match ground {
-        Some(ground) => write_found(alloc, audit, &ground.state, ground.dcs.as_slice(), lines),
+        Some(ground) => write_audit_if(alloc, audit, &ground.state, ground.dcs.as_slice(), lines),
         None => Ok(true),
     }
 }

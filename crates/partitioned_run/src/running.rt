@@ -3,10 +3,9 @@
 ghost use Rattle.std.specs.Prelude.{◌≡◌, length, max, IfOk, IfSome, None, false, is_some, option_map, string_bytes};
 ghost use Rattle.scripts.specs.Reading.{contents_of};
 ghost use Rattle.scripts.specs.declared.keyword.Command.TheVariants as command;
-ghost use Rattle.script_loading.specs.Loading.{beginning_of, first_unverified};
+ghost use Rattle.script_loading.specs.Loading.{beginning_of, first_unverified, begun, empty_stores};
 ghost use Rattle.worker_pool.specs.Faults.{InRange};
-ghost use Rattle.run_command.specs.Stops.{Stops};
-ghost use Rattle.run_command.specs.Running.{begun, empty_stores};
+ghost use Rattle.run_calls.specs.Stops.{Stops};
 ghost use Rattle.partitioned_run.specs.Logged.{AreStarts, IsContentsRun, IsPartitionedRun};
 ghost use Rattle.partitioned_run.specs.Joining.Dividing.{AreDivided, IsDivided};
 ghost use Rattle.partitioned_run.specs.Joining.Reporting.{HaveRun, IsRunSo, MayBeRun};
@@ -24,9 +23,11 @@ use crate::reporting::{
 use data_component::dc::Dc;
 use partitions::merged;
 use report_texts::output::Output;
-use run_command::running::{Listeners, Manner, Waits, of_manner, stopped};
+use run_calls::answering::Manner;
+use run_calls::stop::{of_manner, stopped};
+use run_calls::watching::{Listeners, Waits};
+use run_ground::stop::Stop;
 use run_log::recovering::Recovery;
-use run_log::stop::Stop;
 use script_loading::loading::{Acceptance, Accepted, Source, accept_source, empty_dcs};
 use scripts::keyword::Command;
 use std::alloc::{AllocError, Global};

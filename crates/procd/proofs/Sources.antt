@@ -4,7 +4,7 @@ use Rattle.std.specs.Prelude.{is_some, option_map}
 use Rattle.scripts.specs.declared.keyword.Command.TheVariants as command
 use Rattle.script_loading.specs.declared.loading.Source.{Source}
 use Rattle.script_loading.specs.Loading.{beginning_of}
-use Rattle.run_log.specs.declared.anew.Checkpoints.{Checkpoints}
+use Rattle.run_ground.specs.declared.ground.Checkpoints.{Checkpoints}
 use Rattle.partitioned_run.specs.Logged.{IsPartitionedRun}
 use Rattle.world_command.specs.WorldReport.{IsWorld}
 use Rattle.world_command.specs.declared.world.Behind.{Behind}

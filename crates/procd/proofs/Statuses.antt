@@ -10,7 +10,7 @@ use Rattle.log_part.specs.declared.part.Part.{Part}
 use Rattle.log_part.specs.declared.part.Part.TheVariants.{Whole}
 use Rattle.std.specs.List.{list_any}
 use Rattle.scripts.specs.Reading.{Contents, Reading, script_said}
-use Rattle.script_loading.specs.Loading.{Beginning, beginning, refusal_of, with_procedures, empty_core, empty_store}
+use Rattle.script_loading.specs.Loading.{Beginning, beginning, refusal_of, with_procedures, empty_core, empty_store, begun, empty_stores}
 use Rattle.object_file.specs.Elf.{is_elf}
 use Rattle.object_procedures.specs.Finding.{found_in}
 use Rattle.object_procedures.specs.declared.finding.Found.{Found}
@@ -20,11 +20,11 @@ use Rattle.log_file.specs.declared.stored.Stored.{Stored}
 use Rattle.log_command.specs.LogReport.{IsUnread, IsListing, Listed, Unread, IsChecked, NotBegun, NotBrought, Audited}
 use Rattle.log_command.specs.LogReport.{IsBeside, NotRead, Anothers, Own, IsAuditBy}
 use Rattle.log_command.specs.PictureReport.{IsPicturing, Drawn, NotDrawn}
-use Rattle.run_log.specs.declared.anew.Checkpoints.{Checkpoints}
+use Rattle.run_ground.specs.declared.ground.Checkpoints.{Checkpoints}
 use Rattle.run_log.specs.declared.anew.Renewal.{Renewal}
-use Rattle.run_log.specs.Kept.{FileJournal}
+use Rattle.run_ground.specs.Kept.{FileJournal}
 use Rattle.run_command.specs.Parts.{IsKeptSo}
-use Rattle.run_command.specs.Running.{IsRunBy, IsCallsRun, Ran, Stopped, never, begun, empty_stores}
+use Rattle.run_command.specs.Running.{IsRunBy, IsCallsRun, Ran, Stopped, never}
 use Rattle.run_command.specs.Logged.{IsLoggedRun, Unopened, Refused, Behind as GoneOn, IsLoggedBy}
 use Rattle.partitioned_run.specs.Partitioned.{IsCallsRunApart, IsRunApart, Ran as RanApart, Stopped as StoppedApart}
 use Rattle.partitioned_run.specs.Logged.{AreRunBehind, IsPartitionedBy, IsRunBehind as IsApartBehind, Refused as RefusedApart, Behind as BehindApart}

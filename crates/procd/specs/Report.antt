@@ -12,8 +12,8 @@ use Rattle.text_commands.specs.ObjectVerification.{IsVerification}
 use Rattle.object_file.specs.Elf.{is_elf}
 use Rattle.world_command.specs.WorldReport.{IsWorld}
 use Rattle.world_command.specs.declared.world.Behind.{Behind}
-use Rattle.run_log.specs.declared.anew.Checkpoints.{Checkpoints}
-use Rattle.run_log.specs.Kept.{FileJournal}
+use Rattle.run_ground.specs.declared.ground.Checkpoints.{Checkpoints}
+use Rattle.run_ground.specs.Kept.{FileJournal}
 use Rattle.run_command.specs.Running.{IsRun}
 use Rattle.run_command.specs.Logged.{IsLogged}
 use Rattle.partitioned_run.specs.Logged.{IsPartitionedRun}

@@ -1,6 +1,6 @@
 //! Where the program writes.
 
-use run_command::running::Listeners;
+use run_calls::watching::Listeners;
 use std::io::Stderr;
 
 /// Where a long run tells of itself meanwhile, beside its report.

@@ -7,17 +7,17 @@ use Rattle.scripts.specs.declared.script.Call.{Call}
 use Rattle.tc_core.specs.Core.{Core}
 use Rattle.tc_core.specs.declared.state.Call.{Call as Called}
 use Rattle.worker_pool.specs.declared.answer.Answer.{Answer}
-use Rattle.run_log.specs.declared.anew.Ground.{Ground}
-use Rattle.run_log.specs.declared.anew.Checkpoints.{Checkpoints}
+use Rattle.run_ground.specs.declared.ground.Ground.{Ground}
+use Rattle.run_ground.specs.declared.ground.Checkpoints.{Checkpoints}
 use Rattle.run_log.specs.declared.anew.Renewal.{Renewal}
 use Rattle.run_log.specs.declared.anew.Renewal.TheVariants.{Unwanted}
-use Rattle.run_command.specs.declared.answering.Answers.{Answers}
-use Rattle.run_log.specs.declared.stop.Stop.{Stop}
+use Rattle.run_calls.specs.declared.answering.Answers.{Answers}
+use Rattle.run_ground.specs.declared.stop.Stop.{Stop}
 use Rattle.run_command.specs.declared.parts.RunOutcome.{RunOutcome}
-use Rattle.run_log.specs.Anew.{IsRenewal, IsHeeded, over_at_end}
-use Rattle.run_command.specs.AnswerLines.{answer_lines, call_lines}
-use Rattle.run_command.specs.Answered.{AreCallsOf, AreAnswered, AreServed}
-use Rattle.run_log.specs.Kept.{KeepsLog}
+use Rattle.run_log.specs.Anew.{IsRenewal, IsHeeded}
+use Rattle.run_ground.specs.Kept.{over_at_end, KeepsLog}
+use Rattle.run_calls.specs.AnswerLines.{answer_lines, call_lines}
+use Rattle.run_calls.specs.Answered.{AreCallsOf, AreAnswered, AreServed}
 use Rattle.run_command.specs.Parts.{Stage, Part, Anew, IsPart, HaveLed, AreOne, in_all, first_in, calls_in, first_told, calls_told, lines_of}
 use Rattle.run_command.specs.Joining.Parts.{IsStep, HasCome, AreSoFar, HasEnded, with_ground}
 

@@ -1,13 +1,11 @@
--- The report of calls that were run, and the log that a journal has kept behind them.
-use Rattle.std.proofs.Common.{◌≡◌, ◌∙◌, ◌++◌, ℕ, List, reverse, ap, sym}
-use Rattle.std.proofs.lemmas.List.{reverse-append, reverse-reverse}
+-- The report of calls that were run.
+use Rattle.std.proofs.Common.{ℕ, List}
 use Rattle.std.specs.Prelude.{Bool, string_bytes}
 use Rattle.data_component.specs.Store.{Store}
 use Rattle.scripts.specs.declared.script.Call.{Call}
-use Rattle.tc_log.specs.declared.event.Event.{Event}
 use Rattle.tc_core.specs.Core.{Core}
 use Rattle.worker_pool.specs.Faults.{InRange}
-use Rattle.run_log.specs.declared.anew.Checkpoints.{Checkpoints}
+use Rattle.run_ground.specs.declared.ground.Checkpoints.{Checkpoints}
 use Rattle.run_log.specs.declared.anew.Renewal.{Renewal}
 use Rattle.run_command.specs.declared.parts.RunOutcome.{RunOutcome}
 use Rattle.run_command.specs.Joining.Parts.{HasEnded}
@@ -61,8 +59,3 @@ run_weaker K L less checkpoints start dcs first calls workers tries audit result
       kept = less r.last r.renewal r.kept;
     })
 run_weaker K L less checkpoints start dcs first calls workers tries audit results status lines (Stopped cause stops is line) = Stopped cause stops is line
-
--- what is kept behind a log is the log that goes on from it
-pub turned : (first behind now : List Event) → now ≡ reverse behind ++ first → reverse first ++ behind ≡ reverse now
-turned first behind now is =
-    sym (ap reverse is ∙ (reverse-append (reverse behind) first ∙ ap (λ (l : List Event). reverse first ++ l) (reverse-reverse behind)))

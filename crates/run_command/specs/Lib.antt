@@ -1,8 +1,3 @@
-pub mod AnswerLines
-pub mod Figures
-pub mod Outcomes
-pub mod Stops
-pub mod Answered
 pub mod Parts
 pub mod Running
 pub mod Logged

@@ -6,21 +6,21 @@ use Rattle.data_component.specs.Store.{Store}
 use Rattle.log_file.specs.Bytes.{Rows}
 use Rattle.scripts.specs.Reading.{Contents}
 use Rattle.scripts.specs.declared.script.Call as said
-use Rattle.script_loading.specs.Loading.{Beginning}
+use Rattle.script_loading.specs.Loading.{Beginning, begun, empty_stores}
 use Rattle.tc_core.specs.Core.{Core}
 use Rattle.coming_back.specs.declared.resumed.Resumed.{Resumed}
-use Rattle.run_log.specs.declared.anew.Checkpoints.{Checkpoints}
+use Rattle.run_ground.specs.declared.ground.Checkpoints.{Checkpoints}
 use Rattle.run_log.specs.declared.anew.Renewal.{Renewal}
 use Rattle.run_log.specs.declared.anew.Renewal.TheVariants.{Unwanted}
 use Rattle.run_log.specs.Anew.{IsRenewal, renewal_line}
-use Rattle.run_log.specs.Kept.{FileJournal}
+use Rattle.run_ground.specs.Kept.{FileJournal}
 use Rattle.run_log.specs.LogLines.{back_lines}
 use Rattle.run_log.specs.Recovering.{IsLogFor, HasComeBack, GoesOn, IsLogRefusal}
 use Rattle.run_command.specs.Parts.{IsKeptSo}
-use Rattle.run_command.specs.Running.{IsCallsRun, begun, empty_stores}
-use Rattle.run_log.specs.declared.stop.Stop.{Stop}
-use Rattle.run_command.specs.AnswerLines.{fault_line}
-use Rattle.run_command.specs.Stops.{Stops}
+use Rattle.run_command.specs.Running.{IsCallsRun}
+use Rattle.run_ground.specs.declared.stop.Stop.{Stop}
+use Rattle.run_calls.specs.AnswerLines.{fault_line}
+use Rattle.run_calls.specs.Stops.{Stops}
 
 -- behind these lines, and that of a log that may begin anew first, those of the calls, which are run from there, with the log of the last state
 -- on the disk

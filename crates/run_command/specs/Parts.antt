@@ -5,13 +5,13 @@ use Rattle.scripts.specs.declared.script.Call as said
 use Rattle.tc_core.specs.Core.{Core}
 use Rattle.tc_core.specs.declared.state.Call.{Call}
 use Rattle.worker_pool.specs.declared.answer.Answer.{Answer}
-use Rattle.run_log.specs.declared.anew.Checkpoints.{Checkpoints}
+use Rattle.run_ground.specs.declared.ground.Checkpoints.{Checkpoints}
 use Rattle.run_log.specs.declared.anew.Renewal.{Renewal}
 use Rattle.run_log.specs.declared.anew.Renewal.TheVariants.{Unwanted}
-use Rattle.run_log.specs.Anew.{IsRenewal, IsHeeded, over_at_end}
-use Rattle.run_command.specs.AnswerLines.{answer_lines, call_lines}
-use Rattle.run_command.specs.Answered.{AreCallsOf, AreAnswered, AreServed}
-use Rattle.run_log.specs.Kept.{FileJournal, KeepsLog}
+use Rattle.run_log.specs.Anew.{IsRenewal, IsHeeded}
+use Rattle.run_ground.specs.Kept.{over_at_end, FileJournal, KeepsLog}
+use Rattle.run_calls.specs.AnswerLines.{answer_lines, call_lines}
+use Rattle.run_calls.specs.Answered.{AreCallsOf, AreAnswered, AreServed}
 
 -- calls of the first list and then of the second one that were answered so, and their lines, or a log that may have begun anew
 pub data Stage : Type 0 where

@@ -1,29 +1,23 @@
 -- What the calls of a script print when workers run them, and the exit status.
-use Rattle.std.specs.Prelude.{◌≡◌, ℕ, Bool, true, false, if◌then◌else◌, List, ◌++◌, map, length, Option, Some, None}
+use Rattle.std.specs.Prelude.{◌≡◌, ℕ, Bool, false, if◌then◌else◌, List, ◌++◌, Option, Some, None}
 use Rattle.std.specs.List.{list_any}
 use Rattle.data_component.specs.Store.{Store}
 use Rattle.scripts.specs.Reading.{Contents}
 use Rattle.scripts.specs.declared.script.Call as said
 use Rattle.tc_core.specs.Core.{Core}
-use Rattle.tc_core.specs.declared.state.Refusal.TheVariants as refusal
 use Rattle.worker_pool.specs.Faults.{InRange}
 use Rattle.worker_pool.specs.declared.answer.Answer.{Answer}
-use Rattle.worker_pool.specs.declared.answer.Answer.TheVariants.{Refused}
-use Rattle.run_log.specs.declared.anew.Checkpoints.{Checkpoints}
+use Rattle.run_ground.specs.declared.ground.Checkpoints.{Checkpoints}
 use Rattle.run_log.specs.declared.anew.Renewal.{Renewal}
-use Rattle.run_log.specs.declared.stop.Stop.{Stop}
-use Rattle.run_command.specs.AnswerLines.{fault_line}
+use Rattle.run_ground.specs.declared.stop.Stop.{Stop}
+use Rattle.run_calls.specs.AnswerLines.{fault_line}
+use Rattle.run_calls.specs.Answered.{is_want_of_memory}
 use Rattle.run_log.specs.Anew.{IsRenewal, renewal_line}
 use Rattle.run_command.specs.Parts.{Stage, HaveLed, AreOne, IsWanted}
-use Rattle.run_command.specs.Stops.{Stops}
+use Rattle.run_calls.specs.Stops.{Stops}
 use Rattle.state_lines.specs.AuditLines.{AddsIf, AddsAudit}
-use Rattle.script_loading.specs.Loading.{Beginning, with_procedures, empty_core, empty_store}
+use Rattle.script_loading.specs.Loading.{Beginning, begun, empty_stores}
 use Rattle.state_lines.specs.RowLines.{AddsRowLines}
-
--- the call was refused for want of memory, which ends the program
-abbrev pub is_want_of_memory : Answer → Bool
-is_want_of_memory (Refused refusal.Memory) = true
-is_want_of_memory other = false
 
 -- ---- the report
 
@@ -65,14 +59,6 @@ pub data IsCallsRun (Kept : Core → Renewal → Type 0) (checkpoints : Checkpoi
       → IsCallsRun Kept checkpoints start dcs first calls workers tries audit results status lines
   Stopped : (stop : Stop) → Stops false workers tries stop → status ≡ 1 → fault_line stop ≡ Some lines
       → IsCallsRun Kept checkpoints start dcs first calls workers tries audit results status lines
-
--- its procedures are loaded, and nothing has happened
-abbrev pub begun : Contents → Core
-begun c = with_procedures (empty_core (length c.dcs)) c.procedures
-
--- its data components, with the limits that it says, and empty
-abbrev pub empty_stores : Contents → List Store
-empty_stores c = map empty_store c.dcs
 
 -- no log begins anew
 abbrev pub never : Checkpoints

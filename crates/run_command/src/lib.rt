@@ -10,11 +10,6 @@
 //! ```
 #![tactic(auto)]
 
-mod answer_lines;
-mod answering;
-mod figures;
 pub mod logged;
 mod parts;
 pub mod running;
-mod stop;
-mod watching;

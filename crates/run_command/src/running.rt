@@ -1,39 +1,31 @@
 //! `run`: the calls of a script by workers, a line for each, and then what the data components keep.
 
-ghost use Rattle.std.specs.Prelude.{◌≡◌, ◌++◌, ℕ, Bool, Ok, IfOk, IfErr, Some, is_some, string_bytes};
-ghost use Rattle.std.specs.List.{list_any};
+ghost use Rattle.std.specs.Prelude.{◌≡◌, ℕ, Bool, Ok, IfOk, IfErr, Some, is_some, string_bytes};
 ghost use Rattle.script_loading.specs.Loading.{beginning_of};
 ghost use Rattle.scripts.specs.declared.keyword.Command.TheVariants as command;
-ghost use Rattle.scripts.specs.declared.script.Call.{Call as ScriptCall};
-ghost use Rattle.tc_core.specs.Admission.{call_of};
-ghost use Rattle.run_command.specs.AnswerLines.{fault_line};
-ghost use Rattle.state_lines.specs.AuditLines.{AddsIf, AddsAudit};
-ghost use Rattle.state_lines.specs.RowLines.{AddsRowLines};
-ghost use Rattle.run_log.specs.Kept.{KeepsLog};
-ghost use Rattle.run_command.specs.Answered.{said_call, AreCallsOf};
+ghost use Rattle.run_calls.specs.AnswerLines.{fault_line};
+ghost use Rattle.run_ground.specs.Kept.{KeepsLog};
 ghost use Rattle.run_command.specs.Parts.{IsKeptSo};
-ghost use Rattle.run_log.specs.Stops.{IsUnkept};
-ghost use Rattle.run_command.specs.Stops.{Stops};
-ghost use Rattle.run_log.specs.declared.stop.Stop.TheVariants as Stop;
-ghost use Rattle.run_command.specs.Running.{is_want_of_memory, AreLinesOf, IsCallsRun, IsRun};
+ghost use Rattle.run_ground.specs.Stops.{IsUnkept};
+ghost use Rattle.run_calls.specs.Stops.{Stops};
+ghost use Rattle.run_ground.specs.declared.stop.Stop.TheVariants as Stop;
+ghost use Rattle.run_command.specs.Running.{AreLinesOf, IsCallsRun, IsRun};
 
-use crate::answer_lines::fault_line;
-pub use crate::answer_lines::write_answers;
-pub use crate::answering::{Answers, Manner, Rings, RunInput, answer_on};
-use crate::figures::{
+use crate::parts::{RunOutcome, answer_parts};
+use report_texts::output::Output;
+use run_calls::answering::{Answers, Manner, RunInput, has_want_of_memory};
+use run_calls::figures::{
     Watched, delay_lines, figures, full_dcs, latency_lines, log_figures, procedure_lines, rate,
 };
-use crate::parts::{RunOutcome, answer_parts};
-pub use crate::stop::of_manner;
-pub use crate::watching::{Listeners, Waits};
-use data_component::dc::Dc;
-use report_texts::output::Output;
-use run_log::anew::{Checkpoints, FileJournal, Ground, Renewal, write_renewal};
-use run_log::stop::Stop;
+use run_calls::stop::{of_manner, stopped};
+use run_calls::watching::{Listeners, Waits};
+use run_ground::ground::{Checkpoints, FileJournal, Ground};
+use run_ground::stop::Stop;
+use run_log::anew::{Renewal, write_renewal};
 use script_loading::loading::{Loaded, Loading, Source, load_source};
 use scripts::keyword::Command;
 use scripts::script;
-use state_lines::audit_lines::write_audit;
+use state_lines::audit_lines::write_audit_if;
 use state_lines::row_lines::write_all_rows;
 use std::alloc::{AllocError, Global};
 use std::fs::File;
@@ -41,36 +33,6 @@ use std::rt::Files;
 use std::sync::Wait;
 use std::thread::Threads;
 use std::time::Clock;
-use tc_core::state::{Call, Refusal, TcState};
-use worker_pool::Answer;
-
-/// The call that a line of the script says.
-pub fn call_of(alloc: Global, said: &script::Call) -> Result<Call, AllocError>
-    ensures { IfOk result (λ call. call_of call ≡ said_call said.now) }
-{
-    Ok(Call {
-        proc: said.procedure,
-        args: Vec::from_slice(alloc, said.args.as_slice())?,
-    })
-}
-
-/// The calls that lines of the script say, in their order.
-pub fn calls_of(alloc: Global, said: &[script::Call]) -> Result<Vec<Call>, AllocError>
-    ensures { IfOk result (λ calls. AreCallsOf said.now calls.items) }
-{
-    let mut calls = Vec::with_capacity(alloc, said.len())?;
-    for line in said {
-        calls.push(call_of(alloc, line)?)?;
-    }
-    Ok(calls)
-}
-
-/// Whether a call was refused for want of memory.
-pub fn has_want_of_memory(answers: &[Answer]) -> bool
-    ensures { result ≡ list_any is_want_of_memory answers.now }
-{
-    answers.iter().any(|answer| matches!(answer, Answer::Refused(Refusal::Memory)))
-}
 
 // What is told of how long calls of the second list took.
 fn time_lines(alloc: Global, answers: &Answers, watched: Watched) -> Result<String, AllocError> {
@@ -111,24 +73,6 @@ fn notes(
     Ok(notes)
 }
 
-/// Adds the line of an audit of a log and of these components, where one is wanted, and answers
-/// whether nothing is wrong.
-pub fn write_found(
-    alloc: Global,
-    audit: bool,
-    state: &TcState,
-    dcs: &[Dc],
-    lines: &mut String,
-) -> Result<bool, AllocError>
-    ensures { IfOk result (λ sound. AddsIf audit (string_bytes lines.old) (string_bytes lines.new) sound
-        (AddsAudit state.now.procs state.now.events dcs.now (string_bytes lines.old) (string_bytes lines.new) sound)) }
-{
-    if !audit {
-        return Ok(true);
-    }
-    write_audit(alloc, state.procs(), state.log(), dcs, lines)
-}
-
 // The report of calls that were run, whose lines these are.
 fn reported(
     alloc: Global,
@@ -151,7 +95,7 @@ fn reported(
     let mut lines = lines;
     write_renewal(alloc, renewal, &ground.state, &mut lines)?;
     write_all_rows(alloc, dcs, &mut lines)?;
-    let sound = write_found(alloc, input.manner.audit, &ground.state, dcs, &mut lines)?;
+    let sound = write_audit_if(alloc, input.manner.audit, &ground.state, dcs, &mut lines)?;
     Ok(Output {
         status: u8::from(!sound),
         lines,
@@ -160,19 +104,6 @@ fn reported(
         } else {
             None
         },
-    })
-}
-
-/// The report of calls none of which was begun.
-pub fn stopped(alloc: Global, stop: Stop) -> Result<Output, AllocError>
-    ensures lines { IfOk result (λ r. fault_line stop ≡ Some (string_bytes r.lines)) }
-    ensures status { IfOk result (λ r. r.status ≡ 1) }
-{
-    let line = fault_line(stop).ok_or(AllocError)?;
-    Ok(Output {
-        status: 1,
-        lines: String::from_str(alloc, line)?,
-        notes: None,
     })
 }
 

@@ -1,2 +1,3 @@
 pub mod AnewLemmas
+pub mod LoggedLemmas
 pub mod RecoveringLemmas

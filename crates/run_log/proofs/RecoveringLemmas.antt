@@ -15,7 +15,7 @@ use Rattle.run_log.specs.declared.recovering.Recovery.TheVariants.{Ready, Refuse
 use Rattle.coming_back.specs.declared.resumed.Resumed.{Resumed}
 use Rattle.report_texts.specs.declared.output.Output.{Output}
 use Rattle.run_log.specs.LogLines.{overfull_refusal}
-use Rattle.run_log.specs.Kept.{FileJournal}
+use Rattle.run_ground.specs.Kept.{FileJournal}
 use Rattle.run_log.specs.Recovering.{IsLogFor, HasComeBack, overfull, Baseless, Unfit, Overfull, IsBegun, IsGoingBack, IsOpened}
 use Rattle.base_records.specs.declared.beginning.BaseFault.{BaseFault}
 use Rattle.base_records.specs.Beginning.{HaveBegun, IsUnbegun}

@@ -1,5 +1,5 @@
 -- A run whose log begins anew, and what is printed of it.
-use Rattle.std.specs.Prelude.{◌≡◌, ℕ, List, [], ◌∷◌, ◌++◌, reverse, Option, Some, if◌then◌else◌, codes, decimal}
+use Rattle.std.specs.Prelude.{◌≡◌, ℕ, List, [], ◌∷◌, ◌++◌, reverse, Option, Some, codes, decimal}
 use Rattle.tc_log.specs.declared.event.Event.{Event}
 use Rattle.history.specs.Anew.{begun}
 use Rattle.history.specs.Calls.{admitted}
@@ -12,12 +12,11 @@ use Rattle.tc_core.specs.Core.{Core}
 use Rattle.tc_world.specs.Cutting.{IsCut, IsUncut}
 use Rattle.tc_world.specs.declared.step.Illegal.TheVariants.{NotCut, Unforgettable as CantForget}
 use Rattle.state_lines.specs.RefusalTexts.{checkpoint_fault_text}
-use Rattle.run_log.specs.declared.anew.Checkpoints.{Checkpoints}
 use Rattle.run_log.specs.declared.anew.Bar.{Bar}
 use Rattle.run_log.specs.declared.anew.Bar.TheVariants.{Fault, Unforgettable, InTheWay}
 use Rattle.run_log.specs.declared.anew.Renewal.{Renewal}
 use Rattle.run_log.specs.declared.anew.Renewal.TheVariants.{Unwanted, Begun, Barred}
-use Rattle.run_log.specs.Kept.{FileJournal, IsOver}
+use Rattle.run_ground.specs.Kept.{FileJournal, IsOver}
 
 -- ---- the file
 
@@ -49,10 +48,6 @@ IsRenewal c dcs c' dcs' (Barred bar) = (c' ≡ c) × (dcs' ≡ dcs) × IsBar c d
 -- the log goes on without a try only where its file hasn't more bytes than these
 abbrev pub IsHeeded : Option FileJournal → Option ℕ → Renewal → Type 0
 IsHeeded journal over renewal = renewal ≡ Unwanted → IsOver journal over → ⊥
-
--- with how many bytes of its file it begins anew behind the last call
-abbrev pub over_at_end : Checkpoints → Option ℕ
-over_at_end checkpoints = if checkpoints.at_end then Some 0 else checkpoints.over
 
 -- ---- what is printed
 

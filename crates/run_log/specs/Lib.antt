@@ -1,5 +1,3 @@
-pub mod Stops
-pub mod Kept
 pub mod Anew
 pub mod LogLines
 pub mod Recovering

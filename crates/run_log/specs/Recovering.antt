@@ -30,7 +30,7 @@ use Rattle.run_log.specs.declared.recovering.RecoveredRun.{RecoveredRun}
 use Rattle.run_log.specs.declared.recovering.Recovery.{Recovery}
 use Rattle.run_log.specs.declared.recovering.Recovery.TheVariants.{Ready, Refused}
 use Rattle.run_log.specs.LogLines.{back_lines, IsOpenRefusal, kind_refusal, back_refusal, overfull_refusal}
-use Rattle.run_log.specs.Kept.{KeepsLog}
+use Rattle.run_ground.specs.Kept.{KeepsLog}
 
 -- ---- what is gone on from
 

@@ -5,16 +5,17 @@ ghost use Rattle.data_component.specs.Store.{Store};
 ghost use Rattle.tc_core.specs.Core.{Core};
 ghost use Rattle.tc_world.specs.Cutting.{IsUncut};
 ghost use Rattle.run_log.specs.declared.anew.Renewal.TheVariants.{Unwanted};
-ghost use Rattle.run_log.specs.Anew.{AreAllRows, HasBegunAnew, IsBar, IsHeeded, IsRenewal, renewal_line, over_at_end};
-ghost use Rattle.run_log.specs.declared.stop.Stop.TheVariants as Stop;
-ghost use Rattle.run_log.specs.Kept.{IsOver, KeepsLog};
-ghost use Rattle.run_log.specs.Stops.{IsUnkept};
+ghost use Rattle.run_log.specs.Anew.{AreAllRows, HasBegunAnew, IsBar, IsHeeded, IsRenewal, renewal_line};
+ghost use Rattle.run_ground.specs.Kept.{IsOver, KeepsLog};
+ghost use Rattle.run_ground.specs.declared.stop.Stop.TheVariants as Stop;
+ghost use Rattle.run_ground.specs.Stops.{IsUnkept};
 
-use crate::stop::Stop;
 use data_component::dc::Dc;
-use disk_file::{Beside, BesideError, DiskFile, FileFault, OpenError, PlaceError};
+use disk_file::{Beside, BesideError, FileFault, OpenError, PlaceError};
 use log_file::{BaseRow, Header, may_be_left};
 use log_journal::LogJournal;
+use run_ground::ground::{FileJournal, Ground};
+use run_ground::stop::Stop;
 use state_lines::refusal_texts::checkpoint_fault_text;
 use std::alloc::{AllocError, Global};
 use std::fs::File;
@@ -24,44 +25,6 @@ use tc_core::state::TcState;
 use tc_log::log::Log;
 use tc_world::cutting::cut;
 use tc_world::step::Illegal;
-
-/// A journal in a file.
-pub type FileJournal = LogJournal<DiskFile>;
-
-/// When the log of a run begins anew.
-#[derive(Clone, Copy, Debug)]
-pub struct Checkpoints {
-    /// Behind the last call.
-    pub at_end: bool,
-    /// At the beginning, between parts of the calls and behind the last, where the log's file has more bytes than
-    /// this.
-    pub over: Option<u64>,
-}
-
-impl Checkpoints {
-    /// Never.
-    pub const NONE: Checkpoints = Checkpoints {
-        at_end: false,
-        over: None,
-    };
-
-    /// The size of the log's file, in bytes, above which it does so behind the last call.
-    pub fn over_at_end(&self) -> Option<u64>
-        ensures over { result ≡ over_at_end self.now }
-        ensures none { self.now.over ≡ None → self.now.at_end ≡ false → result ≡ None }
-    {
-        if self.at_end { Some(0) } else { self.over }
-    }
-}
-
-/// What calls are run on: a transaction component's state, its data components, and the journal of its log, if
-/// there is one.
-#[derive(Drop)]
-pub struct Ground {
-    pub state: TcState,
-    pub dcs: Vec<Dc>,
-    pub journal: Option<FileJournal>,
-}
 
 /// Why a log doesn't begin anew, and goes on as it is.
 #[derive(Clone, Copy, Debug, PartialEq, Eq)]

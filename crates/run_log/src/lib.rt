@@ -13,4 +13,3 @@
 pub mod anew;
 mod log_lines;
 pub mod recovering;
-pub mod stop;

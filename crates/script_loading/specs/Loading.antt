@@ -145,6 +145,14 @@ empty_core dcs = record { procs = []; names = []; dcs = dcs; events = []; given_
 abbrev pub empty_store : Dc → Store
 empty_store dc = empty dc.rows dc.ops
 
+-- what a script's calls begin with: its procedures are loaded, and nothing has happened
+abbrev pub begun : Contents → Core
+begun c = with_procedures (empty_core (length c.dcs)) c.procedures
+
+-- and its data components, with the limits that it says, and empty
+abbrev pub empty_stores : Contents → List Store
+empty_stores c = map empty_store c.dcs
+
 -- all procedures are verified, and loaded in their order
 pub record IsAccepted (object : Option (List ℕ)) (contents : Contents) (a : AcceptedScript) : Type 0 where
   pub verified : first_unverified object contents.procedures ≡ None

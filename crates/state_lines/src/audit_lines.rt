@@ -1,7 +1,7 @@
 //! What an audit found, as a line.
 
 ghost use Rattle.std.specs.Prelude.{◌≡◌, IfOk, string_bytes};
-ghost use Rattle.state_lines.specs.AuditLines.{audit_line, lacks_memory, AddsAudit};
+ghost use Rattle.state_lines.specs.AuditLines.{audit_line, lacks_memory, AddsAudit, AddsIf};
 ghost use Rattle.state_lines.specs.AuditLines.{gap_of, first_gap, gap_text, skipped_line, AddsStateAudit};
 
 use crate::record_texts::record_text;
@@ -69,6 +69,23 @@ pub fn write_audit(
     let line = audit_line(alloc, &found)?;
     lines.push_str(line.as_str())?;
     Ok(found.is_ok())
+}
+
+/// The same of a state's log, where it is wanted; where it isn't, nothing is known to be wrong.
+pub fn write_audit_if(
+    alloc: Global,
+    audit: bool,
+    state: &TcState,
+    dcs: &[Dc],
+    lines: &mut String,
+) -> Result<bool, AllocError>
+    ensures { IfOk result (λ sound. AddsIf audit (string_bytes lines.old) (string_bytes lines.new) sound
+        (AddsAudit state.now.procs state.now.events dcs.now (string_bytes lines.old) (string_bytes lines.new) sound)) }
+{
+    if !audit {
+        return Ok(true);
+    }
+    write_audit(alloc, state.procs(), state.log(), dcs, lines)
 }
 
 fn gap_of(site: &Site, dc: &Dc) -> Option<Gap>

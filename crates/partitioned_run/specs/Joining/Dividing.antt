@@ -5,12 +5,11 @@ use Rattle.partitions.specs.Picking.{picked}
 use Rattle.scripts.specs.Reading.{Contents, contents_of}
 use Rattle.scripts.specs.declared.script.Call.{Call}
 use Rattle.scripts.specs.declared.script.Script.{Script}
-use Rattle.script_loading.specs.Loading.{first_unverified}
+use Rattle.script_loading.specs.Loading.{first_unverified, begun, empty_stores}
 use Rattle.verifier.specs.Checked.{Checked}
-use Rattle.run_log.specs.declared.anew.Ground.{Ground}
-use Rattle.run_log.specs.declared.stop.Stop.{Stop}
+use Rattle.run_ground.specs.declared.ground.Ground.{Ground}
+use Rattle.run_ground.specs.declared.stop.Stop.{Stop}
 use Rattle.worker_pool.specs.declared.answer.Answer.{Answer}
-use Rattle.run_command.specs.Running.{begun, empty_stores}
 use Rattle.partitioned_run.specs.declared.answering.PartitionOutcome.{PartitionOutcome}
 use Rattle.partitioned_run.specs.declared.dividing.Division.{Division}
 use Rattle.partitioned_run.specs.declared.grounds.Start.{Start}

@@ -4,7 +4,7 @@ use Rattle.std.specs.Global.{Vec}
 use Rattle.data_component.specs.Store.{Store}
 use Rattle.partitions.specs.Partitions.{partition_at}
 use Rattle.report_texts.specs.declared.output.Output.{Output}
-use Rattle.run_command.specs.Running.{begun, empty_stores}
+use Rattle.script_loading.specs.Loading.{begun, empty_stores}
 use Rattle.run_log.specs.declared.recovering.Recovery.{Recovery}
 use Rattle.run_log.specs.declared.recovering.Recovery.TheVariants.{Ready, Refused}
 use Rattle.scripts.specs.Reading.{Contents}

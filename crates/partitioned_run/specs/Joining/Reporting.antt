@@ -1,14 +1,13 @@
 -- What the calls of all partitions came to, taken apart.
 use Rattle.std.specs.Prelude.{◌≡◌, ℕ, Bool, true, false, List, length, map, max, Option, Some, None, slice_get, string_bytes, Result, Ok}
 use Rattle.std.specs.Global.{Vec}
-use Rattle.run_log.specs.declared.anew.Ground.{Ground}
+use Rattle.run_ground.specs.declared.ground.Ground.{Ground}
 use Rattle.worker_pool.specs.declared.answer.Answer.{Answer}
 use Rattle.scripts.specs.Reading.{Contents, contents_of}
-use Rattle.script_loading.specs.Loading.{Beginning, first_unverified}
+use Rattle.script_loading.specs.Loading.{Beginning, first_unverified, begun, empty_stores}
 use Rattle.script_loading.specs.declared.loading.Acceptance.{Acceptance}
 use Rattle.script_loading.specs.declared.loading.Acceptance.TheVariants.{Accepted, Refused}
-use Rattle.run_log.specs.declared.stop.Stop.{Stop}
-use Rattle.run_command.specs.Running.{begun, empty_stores}
+use Rattle.run_ground.specs.declared.stop.Stop.{Stop}
 use Rattle.partitions.specs.Picking.{picked}
 use Rattle.partitioned_run.specs.declared.grounds.Start.{Start}
 use Rattle.partitioned_run.specs.Logged.{front_lines, AreRunBehind, AreRunFrom, AreStarts}

@@ -4,10 +4,11 @@ use Rattle.data_component.specs.Store.{Store}
 use Rattle.scripts.specs.declared.script.Call.{Call}
 use Rattle.tc_core.specs.Core.{Core}
 use Rattle.worker_pool.specs.declared.answer.Answer.{Answer}
-use Rattle.run_log.specs.declared.anew.Checkpoints.{Checkpoints}
-use Rattle.run_log.specs.declared.anew.Ground.{Ground}
+use Rattle.run_ground.specs.declared.ground.Checkpoints.{Checkpoints}
+use Rattle.run_ground.specs.declared.ground.Ground.{Ground}
 use Rattle.run_command.specs.declared.parts.RunOutcome.{RunOutcome}
-use Rattle.run_log.specs.Anew.{IsRenewal, IsHeeded, over_at_end}
+use Rattle.run_log.specs.Anew.{IsRenewal, IsHeeded}
+use Rattle.run_ground.specs.Kept.{over_at_end}
 use Rattle.run_command.specs.Parts.{Stage, IsPart, HaveLed, AreOne, IsWanted}
 
 -- the same on another ground

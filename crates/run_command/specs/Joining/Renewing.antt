@@ -2,7 +2,7 @@
 use Rattle.std.specs.Prelude.{◌≡◌, ℕ, ◌++◌, Option, None, string_bytes}
 use Rattle.std.specs.declared.string.String.{String}
 use Rattle.std.specs.declared.alloc.Global.{Global}
-use Rattle.run_log.specs.declared.anew.Ground.{Ground}
+use Rattle.run_ground.specs.declared.ground.Ground.{Ground}
 use Rattle.run_log.specs.declared.anew.Renewal.{Renewal}
 use Rattle.run_log.specs.declared.anew.Renewal.TheVariants.{Unwanted}
 use Rattle.run_log.specs.Anew.{IsRenewal, IsHeeded, renewal_line}

@@ -10,7 +10,7 @@ use Rattle.run_log.specs.declared.recovering.Recovery.{Recovery}
 use Rattle.run_log.specs.declared.recovering.Recovery.TheVariants.{Ready, Refused}
 use Rattle.coming_back.specs.declared.coming.ComeBackFault.{ComeBackFault}
 use Rattle.run_log.specs.LogLines.{back_refusal}
-use Rattle.run_log.specs.Kept.{FileJournal}
+use Rattle.run_ground.specs.Kept.{FileJournal}
 use Rattle.run_log.specs.Recovering.{IsLogRefusal, IsBackFrom}
 
 -- why the log isn't gone on from

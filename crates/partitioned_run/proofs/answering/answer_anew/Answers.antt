@@ -1,7 +1,7 @@
 use Rattle.std.proofs.Common.{◌∙◌, sym}
 use Rattle.std.proofs.lemmas.Result.{IfOk-weaker}
 use Rattle.scripts.specs.Reading.{contents_of}
-use Rattle.run_command.specs.Running.{begun, empty_stores}
+use Rattle.script_loading.specs.Loading.{begun, empty_stores}
 use Rattle.partitions.specs.Picking.{picked}
 use Rattle.partitioned_run.proofs.DividingLemmas.{answered_anew, none_run}
 use Rattle.partitioned_run.proofs.answering.answer_anew.Goals as goal

@@ -1,6 +1,6 @@
 use Rattle.std.proofs.Common.{◌∙◌, sym}
 use Rattle.scripts.specs.Reading.{contents_of}
-use Rattle.run_command.specs.Running.{begun, empty_stores}
+use Rattle.script_loading.specs.Loading.{begun, empty_stores}
 use Rattle.partitions.specs.Picking.{picked}
 use Rattle.partitioned_run.proofs.DividingLemmas.{idle_run, none_run, run_behind}
 use Rattle.partitioned_run.proofs.answering.answer_behind.Goals as goal

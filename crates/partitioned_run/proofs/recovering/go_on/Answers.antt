@@ -4,7 +4,7 @@ use Rattle.std.proofs.lemmas.List.{length-map}
 use Rattle.base_records.proofs.BaseLemmas.{begun_count}
 use Rattle.data_component.specs.Store.{Store, restarted}
 use Rattle.log_file.specs.Found.{base_in}
-use Rattle.run_command.proofs.LoggedLemmas.{lent_whole}
+use Rattle.run_log.proofs.LoggedLemmas.{lent_whole}
 use Rattle.run_log.specs.Recovering.{IsLogRefusal, IsBackFrom}
 use Rattle.partitioned_run.specs.Logged.{Itself, Others}
 use Rattle.partitioned_run.proofs.RecoveringLemmas.{back_at}

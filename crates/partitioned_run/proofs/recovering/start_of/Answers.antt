@@ -3,7 +3,7 @@ use Rattle.partitions.specs.Partitions.{partition_at}
 use Rattle.std.specs.Prelude.{All, is_some}
 use Rattle.std.proofs.lemmas.Result.{IfOk-weaker}
 use Rattle.coming_back.specs.Coming.{HasOnlyRows}
-use Rattle.run_command.proofs.LoggedLemmas.{all_empty}
+use Rattle.run_log.proofs.LoggedLemmas.{all_empty}
 use Rattle.scripts.specs.Reading.{contents_of}
 use Rattle.partitioned_run.proofs.RecoveringLemmas.{recovered_so, same_number}
 use Rattle.partitioned_run.proofs.recovering.start_of.Goals as goal

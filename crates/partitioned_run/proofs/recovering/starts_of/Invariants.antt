@@ -1,7 +1,7 @@
 use Rattle.std.proofs.Common.{◌≡◌, length}
 use Rattle.std.specs.Prelude.{is_some}
 use Rattle.scripts.specs.Reading.{contents_of}
-use Rattle.run_command.specs.Running.{begun, empty_stores}
+use Rattle.script_loading.specs.Loading.{begun, empty_stores}
 use Rattle.partitioned_run.specs.Logged.{AreStarts}
 use Rattle.partitioned_run.proofs.recovering.starts_of.Given as goal
 

@@ -2,9 +2,8 @@ use Rattle.std.proofs.Common.{◌∙◌, ap, ℕ, max, sym}
 use Rattle.std.specs.Prelude.{is_some, string_bytes}
 use Rattle.std.proofs.lemmas.List.{length-map}
 use Rattle.scripts.specs.Reading.{contents_of}
-use Rattle.script_loading.specs.Loading.{empty_store}
-use Rattle.run_command.specs.Running.{begun, empty_stores}
-use Rattle.run_log.specs.declared.stop.Stop.TheVariants.{NoThread}
+use Rattle.script_loading.specs.Loading.{empty_store, begun, empty_stores}
+use Rattle.run_ground.specs.declared.stop.Stop.TheVariants.{NoThread}
 use Rattle.partitioned_run.specs.Logged.{front_lines}
 use Rattle.partitioned_run.proofs.RecoveringLemmas.{kept_starts}
 use Rattle.partitioned_run.proofs.ReportingLemmas.{all_run, ran_apart, stopped_so}

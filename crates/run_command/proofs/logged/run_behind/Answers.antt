@@ -2,7 +2,7 @@ use Rattle.std.proofs.Common.{false, rules, ◌≡◌, ◌∙◌, ◌++◌, ℕ,
 use Rattle.std.specs.Prelude.{string_bytes}
 use Rattle.data_component.specs.Store.{Store, restarted}
 use Rattle.base_records.proofs.BaseLemmas.{begun_count}
-use Rattle.run_command.proofs.LoggedLemmas.{lent_whole}
+use Rattle.run_log.proofs.LoggedLemmas.{lent_whole}
 use Rattle.std.proofs.lemmas.List.{length-map}
 use Rattle.std.proofs.lemmas.Result.{IfOk-weaker}
 use Rattle.run_log.specs.Recovering.{IsLogRefusal, IsBackTo}

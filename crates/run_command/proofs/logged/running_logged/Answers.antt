@@ -4,7 +4,7 @@ use Rattle.scripts.specs.declared.keyword.Command.TheVariants.{Run}
 use Rattle.script_loading.specs.Loading.{IsLoadingOf, beginning_of}
 use Rattle.script_loading.specs.declared.loading.Loading.TheVariants.{Ready}
 use Rattle.coming_back.specs.Coming.{HasOnlyRows}
-use Rattle.run_command.proofs.LoggedLemmas.{all_empty}
+use Rattle.run_log.proofs.LoggedLemmas.{all_empty}
 use Rattle.run_command.proofs.logged.running_logged.Goals as goal
 
 pub run_behind-requires-after_bounds : goal.run_behind-requires-after_bounds

@@ -1,8 +1,8 @@
 use Rattle.std.proofs.Common.{◌∙◌, sym, subst}
 use Rattle.std.specs.Prelude.{Bool, IfErr, is_some}
 use Rattle.std.proofs.lemmas.Result.{IfOk-weaker}
-use Rattle.run_command.specs.Stops.{Stops}
-use Rattle.run_command.proofs.StopLemmas.{unkept_stops}
+use Rattle.run_calls.specs.Stops.{Stops}
+use Rattle.run_calls.proofs.StopLemmas.{unkept_stops}
 use Rattle.run_command.proofs.parts.answer_next.Goals as goal
 
 pub returns-in-Ok-clause-step : goal.returns-in-Ok-clause-step

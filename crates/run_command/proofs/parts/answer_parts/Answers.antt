@@ -2,7 +2,7 @@ use Rattle.std.proofs.Common.{rules, ◌≡◌, ◌∙◌, ◌<◌, length}
 use Rattle.std.specs.Prelude.{is_some}
 use Rattle.std.proofs.lemmas.Result.{err_from_is_err_and, IfErr-weaker}
 use Rattle.run_command.proofs.PartsLemmas.{first_so_far, next_so_far, all_come, ended}
-use Rattle.run_command.proofs.StopLemmas.{unkept_stops}
+use Rattle.run_calls.proofs.StopLemmas.{unkept_stops}
 use Rattle.run_command.proofs.parts.answer_parts.Goals as goal
 
 pub parts-init : goal.parts-init

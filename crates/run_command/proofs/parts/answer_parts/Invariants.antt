@@ -1,7 +1,7 @@
 use Rattle.std.proofs.Common.{◌≡◌, length}
 use Rattle.std.specs.Prelude.{is_some}
 use Rattle.worker_pool.specs.Faults.{InRange}
-use Rattle.run_log.specs.Kept.{KeepsLog}
+use Rattle.run_ground.specs.Kept.{KeepsLog}
 use Rattle.run_command.specs.Joining.Parts.{AreSoFar}
 use Rattle.run_command.proofs.parts.answer_parts.Given as goal
 

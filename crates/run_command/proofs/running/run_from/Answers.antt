@@ -1,12 +1,12 @@
 use Rattle.std.proofs.Common.{sym, subst}
 use Rattle.std.specs.Prelude.{is_some, string_bytes}
 use Rattle.std.proofs.lemmas.Result.{IfOk-weaker, IfErr-weaker}
-use Rattle.run_log.specs.declared.stop.Stop.{Stop}
+use Rattle.run_ground.specs.declared.stop.Stop.{Stop}
 use Rattle.run_command.specs.Parts.{IsKeptSo}
 use Rattle.run_command.specs.Running.{Stopped}
-use Rattle.run_log.specs.Stops.{IsUnkept}
+use Rattle.run_ground.specs.Stops.{IsUnkept}
 use Rattle.run_command.proofs.RunLemmas.{ran_run}
-use Rattle.run_command.proofs.StopLemmas.{told_stops}
+use Rattle.run_calls.proofs.StopLemmas.{told_stops}
 use Rattle.run_command.proofs.running.run_from.Goals as goal
 
 pub returns-in-Ok-answer_parts-clause-run : goal.returns-in-Ok-answer_parts-clause-run

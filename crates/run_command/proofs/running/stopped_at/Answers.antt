@@ -1,8 +1,8 @@
 use Rattle.std.proofs.Common.{sym, subst}
 use Rattle.std.proofs.lemmas.Result.{IfOk-weaker, IfErr-weaker}
-use Rattle.run_log.specs.declared.stop.Stop.{Stop}
-use Rattle.run_log.specs.Stops.{IsUnkept}
-use Rattle.run_command.specs.Stops.{Stops}
+use Rattle.run_ground.specs.declared.stop.Stop.{Stop}
+use Rattle.run_ground.specs.Stops.{IsUnkept}
+use Rattle.run_calls.specs.Stops.{Stops}
 use Rattle.run_command.proofs.running.stopped_at.Goals as goal
 
 pub returns-in-NotKept-clause-fault : goal.returns-in-NotKept-clause-fault

@@ -8,7 +8,7 @@ use Rattle.base_records.specs.Beginning.{HaveBegun, IsUnbegun}
 use Rattle.base_records.proofs.BaseLemmas.{have_only_rows}
 use Rattle.log_file.specs.Found.{base_in}
 use Rattle.run_log.specs.LogLines.{back_lines}
-use Rattle.run_log.specs.Kept.{KeepsLog}
+use Rattle.run_ground.specs.Kept.{KeepsLog}
 use Rattle.run_log.specs.Recovering.{HasComeBack, overfull}
 use Rattle.run_log.proofs.RecoveringLemmas.{baseless_comes, unfit_comes, overfull_comes}
 use Rattle.run_log.proofs.recovering.come.Goals as goal

@@ -1,0 +1,5 @@
+pub mod AnswerLemmas
+pub mod FullLemmas
+pub mod KeptLemmas
+pub mod ServerLemmas
+pub mod StopLemmas

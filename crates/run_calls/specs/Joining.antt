@@ -1,0 +1,3 @@
+-- Definitions that only join bodies to those beside this folder: no contract that others see speaks of them.
+pub mod Servers
+pub mod Stopping

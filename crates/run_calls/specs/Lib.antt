@@ -1,0 +1,6 @@
+pub mod AnswerLines
+pub mod Answered
+pub mod Figures
+pub mod Outcomes
+pub mod Stops
+pub mod Joining
