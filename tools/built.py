@@ -1,9 +1,22 @@
-"""Where this repository and its built programs are, and which crates there are."""
+#!/usr/bin/env python3
+"""Where this repository and its built programs are, and which crates there are.
+
+  tools/built.py CRATE    prints where the crate's program lies
+"""
+import os
 import pathlib
+import sys
 
 TOP = pathlib.Path(__file__).resolve().parent.parent
-PROCD = TOP / "crates/procd/out/procd"
-BENCH = TOP / "crates/bench/out/bench"
+
+
+def program(name):
+    """The program as it was proved and built, or, with MZ_UNPROVED in the environment, as tools/unproved.py compiled it."""
+    return TOP / (f"out-unproved/{name}" if os.environ.get("MZ_UNPROVED") else f"crates/{name}/out/{name}")
+
+
+PROCD = program("procd")
+BENCH = program("bench")
 NO_KIT = "the Rattle kit isn't in the path (no command rt): README.md, 'Try it in two minutes', says which kit; what is built needs none"
 
 
@@ -16,3 +29,7 @@ def lines():
 def uses():
     """The crates of crates.txt, each with the libraries that it uses."""
     return {name: line.partition(":")[2].split() for name, line in lines().items()}
+
+
+if __name__ == "__main__":
+    print(*map(program, sys.argv[1:]))

@@ -3,7 +3,7 @@
 # folder, a word a line, in a copy of it, and compares what it prints with the file `printed`, its status with `status`, and
 # the files that it writes with those of `written`, where there are such.
 # An object file NAME.o is what clang 14 makes of NAME.c with -target bpf -O2 -mcpu=v2 -c (tally: -mcpu=v3).
-procd=$(cd "$(dirname "$0")/.." && pwd)/crates/procd/out/procd
+procd=$("$(dirname "$0")/built.py" procd)
 name=$(basename "$1")
 copy=$(mktemp -d)
 trap 'rm -rf "$copy"' EXIT

@@ -11,12 +11,12 @@ import argparse
 import pathlib
 import sys
 
+from built import PROCD
 from dist import release
 from printed_rows import checkpoints, code, commands, logs, objects, partitioned, parts, restarts, runs, scripts, worlds
 from trying import Program
 
-TOP = pathlib.Path(__file__).resolve().parent.parent
-BUILT = [TOP / "crates" / "procd" / "out" / name for name in ("procd", "procd.by-rattle")]
+BUILT = [PROCD, PROCD.with_name("procd.by-rattle")]
 TABLES = [code, scripts, objects, worlds, restarts, runs, logs, checkpoints, partitioned, parts, commands]
 
 
