@@ -38,17 +38,24 @@ typedef unsigned long long u64;
 struct mazzulpe_access { unsigned short dc, table, flags, spare; u64 key; };
 
 /* What a procedure may call. `slot` is the number of an access slot, from 0, and has to be a constant; each slot has a
- * buffer of 64 bytes. */
+ * buffer of 64 bytes. After each call comes an empty instruction that differs by the slot: else a compiler makes one call
+ * of two that are the last of two branches, and its slot is no constant. */
+#define MAZZULPE_CALLED(answers, helper, slot) \
+    __extension__({ \
+        answers mazzulpe_answer = ((answers (*)(u64))helper)(slot); \
+        __asm__ volatile("" : : "i"(slot)); \
+        mazzulpe_answer; \
+    })
 
-/* Reads the slot's record into its buffer: the buffer's address, or 0 where there is no such record. */
-static u64 *(*record_read)(u64 slot) = (void *)1;
-/* Inserts the buffer as the record: 0, or 1 where there is one already. */
-static u64 (*record_insert)(u64 slot) = (void *)2;
-/* Writes the buffer over the record: 0, or 1 where there is none. */
-static u64 (*record_update)(u64 slot) = (void *)3;
-/* Deletes the record: 0, or 1 where there is none. */
-static u64 (*record_delete)(u64 slot) = (void *)4;
+/* Reads the slot's record into its buffer: the buffer's address, or 0 if there is no such record. */
+#define record_read(slot) MAZZULPE_CALLED(u64 *, 1, slot)
+/* Inserts the buffer as the record: 0, or 1 if there is one already. */
+#define record_insert(slot) MAZZULPE_CALLED(u64, 2, slot)
+/* Writes the buffer over the record: 0, or 1 if there is none. */
+#define record_update(slot) MAZZULPE_CALLED(u64, 3, slot)
+/* Deletes the record: 0, or 1 if there is none. */
+#define record_delete(slot) MAZZULPE_CALLED(u64, 4, slot)
 /* The buffer's address; nothing is sent. */
-static u64 *(*record_buffer)(u64 slot) = (void *)5;
+#define record_buffer(slot) MAZZULPE_CALLED(u64 *, 5, slot)
 
 #endif
