@@ -2,9 +2,18 @@
 # The gate: `rt ci` in this checkout (every proof from nothing, the must-fail edits, the tests and the stored runs), whose
 # status decides. Beside it, by processors that nothing else wants, the edits by function are tried, and the library for C with
 # its examples. Where it passes come, by the programs that it built, each example and a short run of what is tried from outside
-# (docs/TESTING.md). The last line is `N passed, M failed`.
+# (docs/TESTING.md). The last line is `N passed, M failed`. What each process took stands in out-gate/costs (tools/costs.py).
+#
+#     tools/gate.sh               all of it
+#     tools/gate.sh --unproved    a quick look without a proof: compiles programs, tests and the library for C without their
+#                                 proofs, those whose sources changed, and tries all that runs
 set -e
 cd "$(dirname "$0")/.."
+case "$*" in
+"") unproved= ;;
+--unproved) unproved=--unproved ;;
+*) sed -n '2,/^set/s/^# \{0,1\}//p' "$0" >&2 && exit 2 ;;
+esac
 ended=$(mktemp -d)
 trap 'rm -rf "$ended"' EXIT
 began=$(date +%s)
@@ -38,20 +47,54 @@ beside() {
         echo "once ${edit%%/*} tools/edits_by_function.py $edit"
     done
 }
-: > "$ended/said"
-beside | nice -n 19 tools/side_by_side.py --most 2 --following "$ended/said" > "$ended/beside" 2>&1 &
-following=$!
-{ RT_JOBS=${RT_JOBS:-$(side_by_side)} rt ci 2>&1 && echo 0 > "$ended/status" || echo $? > "$ended/status"; } | tee "$ended/said"
-status=$(cat "$ended/status")
-[ "$status" -eq 0 ] || exit "$status"
-last=$(tail -n 1 "$ended/said")
-took "rt ci: $last" | tee -a "$ended/said"
 
-passed=${last%% passed*}
-# What is tried behind it, a command a line; the longest stand first.
+# Proves and builds all, with what is tried beside it.
+prove() {
+    : > "$ended/said"
+    beside | nice -n 19 tools/side_by_side.py --most 2 --following "$ended/said" > "$ended/beside" 2>&1 &
+    following=$!
+    { RT_JOBS=${RT_JOBS:-$(side_by_side)} rt ci 2>&1 && echo 0 > "$ended/status" || echo $? > "$ended/status"; } | tee "$ended/said"
+    status=$(cat "$ended/status")
+    [ "$status" -eq 0 ] || exit "$status"
+    last=$(tail -n 1 "$ended/said")
+    took "rt ci: $last" | tee -a "$ended/said"
+    passed=${last%% passed*}
+    wait "$following" || true
+    cat "$ended/beside"
+    took "what is tried beside it"
+}
+
+# What is compiled without proofs, a command a line, the longest first; the tests are run as well.
+unproved_builds() {
+    for tests in pool world component upper lower code; do
+        echo "tools/unproved.py --test ${tests}_tests"
+    done
+    echo "tools/unproved.py procd"
+    echo "tools/unproved.py bench"
+    if [ -z "$missing" ]; then
+        echo "tools/archive.py --unproved"
+    fi
+}
+
+# Compiles all without a proof. The library for C is tried in a copy that lies as a package does.
+compile() {
+    export MZ_UNPROVED=1
+    passed=0
+    unproved_builds | tools/side_by_side.py | tee "$ended/beside" || true
+    if [ -z "$missing" ]; then
+        mkdir -p out-unproved/lib
+        cp -p out-unproved/libmazzulpe.a out-unproved/lib
+        tar c --exclude=c_interface/build c_interface | tar x -C out-unproved
+        ln -sfn ../docs ../crates out-unproved
+    fi
+    took "what is compiled"
+}
+
+# What is tried of the programs, a command a line; the longest stand first.
 tries() {
     if [ -z "$missing" ]; then
-        echo "tools/try_dist.py"
+        [ -z "$unproved" ] || echo "make -s -C out-unproved/c_interface check RATTLE_ARCHIVE=../lib/libmazzulpe.a"
+        echo "tools/try_dist.py $unproved"
     fi
     for how in "" --forget --control; do
         echo "tools/cut_crashes.py --kills 20 $how"
@@ -76,15 +119,16 @@ tools/moved_files.py
 tools/followed_logs.py
 tools/watched_runs.py
 tools/full_component.py
-said=$(crates/bench/out/bench damaged 50) && echo "a log's file with one fault: $said" && [ "${said##* }" = 0 ]
 END
+    echo "said=\$($(tools/built.py bench) damaged 50) && echo \"a log's file with one fault: \$said\" && [ \"\${said##* }\" = 0 ]"
     for example in examples/*/; do
         echo "tools/example.sh $example"
     done
 }
-wait "$following" || true
-cat "$ended/beside"
-took "what is tried beside it"
+
+mkdir -p out-gate
+tools/costs.py --of $$ --to out-gate/costs &
+if [ -z "$unproved" ]; then prove; else compile; fi
 tries | tools/side_by_side.py | tee "$ended/tried" || true
 failed=0
 for part in beside tried; do
@@ -94,7 +138,10 @@ for part in beside tried; do
     failed=$((failed + ${last%% failed*}))
 done
 took "all"
-if [ -z "$missing" ] && [ "$failed" -eq 0 ]; then
+tools/costs.py || true
+if [ -n "$unproved" ]; then
+    echo "NOT PROVED: what passed here was compiled without its proofs; tools/gate.sh proves it"
+elif [ -z "$missing" ] && [ "$failed" -eq 0 ]; then
     tools/dist.py --passed "$passed passed, $failed failed" || echo "gate: packages can't say that they passed it"
 fi
 echo "$passed passed, $failed failed"
