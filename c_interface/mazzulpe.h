@@ -109,6 +109,8 @@ typedef uint32_t mz_code;
 #define MZ_OLD_NEWS MZ_CODE('I', 15)          /* this restart, or a later one, is known */
 #define MZ_NOT_DOWN MZ_CODE('I', 16)          /* the data component isn't down */
 #define MZ_FORGOTTEN MZ_CODE('Q', 3)          /* the data component lost what the log can't redo any more */
+#define MZ_DIVERGED MZ_CODE('D', 1)           /* the data component says otherwise than the log, or than can be */
+#define MZ_DEPOSED MZ_CODE('D', 2)            /* it says Old to what isn't old: it serves another transaction component */
 #define MZ_NOTHING_YET MZ_CODE('G', 1)        /* nothing has happened: there is nothing to begin behind */
 #define MZ_TXNS_OPEN MZ_CODE('G', 2)          /* a transaction is open, one in doubt or stuck perhaps */
 #define MZ_ONE_DOWN MZ_CODE('G', 4)           /* a data component is down */
@@ -158,6 +160,7 @@ typedef struct {
     mz_record record;
     uint8_t value[MZ_VALUE]; /* of an insert or an update; zeros else */
     uint64_t session;        /* whose number it is, of the transaction components over the same storage (mz_session) */
+    int undoes;              /* 1: it undoes a write: perform it, also where it is full. A redo has 0 */
 } mz_wire;
 
 typedef enum {
@@ -248,7 +251,11 @@ typedef struct {
     uint64_t object;     /* of a transaction component: the digest of the object file that MZ_MEMORY cut off */
     uint64_t of_object;  /* and how many of its procedures are loaded */
     uint64_t session;    /* of a transaction component: which one it is */
+    mz_reply refused;    /* to the data component refused_dc, which may be 0 too: what mz_refused_reply says */
+    uint32_t refused_dc, is_refused;
 } mz_head;
+
+typedef char mz_head_keeps_the_frame_aligned[sizeof(mz_head) % 16 ? -1 : 1];
 
 enum { MZ_KIND_TC = 0x4d5a5443, MZ_KIND_DC = 0x4d5a4443, MZ_KIND_PROGRAM = 0x4d5a5052, MZ_KIND_CLOSED = 0x4d5a0000 };
 
@@ -345,7 +352,7 @@ static inline void mz_put_wire(mz_frame *f, const mz_wire *w) {
     f->number = w->number;
     f->low_water = w->low_water;
     f->incarnation = w->incarnation;
-    f->redo = w->redo ? 1 : 0;
+    f->redo = w->redo || w->undoes;
     f->op = (uint32_t)w->op;
     mz_put_record(f, &w->record);
     memcpy(f->value, w->value, MZ_VALUE);
@@ -356,6 +363,7 @@ static inline void mz_get_wire(mz_frame *f, mz_wire *w) {
     w->low_water = f->low_water;
     w->incarnation = f->incarnation;
     w->session = mz_head_of(f)->session;
+    w->undoes = 0;
     w->redo = f->redo != 0;
     w->op = (mz_op)f->op;
     mz_get_record(f, &w->record);
@@ -423,6 +431,37 @@ static inline mz_code mz_hand_in(mz_frame *f, const void *code, size_t bytes, co
     return c;
 }
 
+static inline uint64_t mz_little(const uint8_t *at, int bytes) {
+    uint64_t n = 0;
+    for (int i = bytes; i-- > 0;) n = n << 8 | at[i];
+    return n;
+}
+
+/* The kind of the last event from `low` to before `high` that gave a number out, which is in *number, and its place in
+ * *at; 0 where there is none, or no memory for its row. */
+static inline uint32_t mz_giver_before(mz_frame *f, uint64_t low, uint64_t high, uint64_t *number, uint64_t *at) {
+    for (*at = high; *at > low;) {
+        f->place = --*at;
+        if (mz_make(f, MZ_CALL_LOG_BYTES) != MZ_OK) return 0;
+        *number = mz_little(f->bytes + 16, 8);
+        if (f->bytes[0] == 2 || f->bytes[0] == 4) return f->bytes[0];
+    }
+    return 0;
+}
+
+/* Whether this open request undoes a write, by its event in the log, where numbers rise. */
+static inline int mz_is_undo(mz_frame *f, uint64_t number) {
+    uint64_t low = 0, high = mz_make(f, MZ_CALL_LOG_LENGTH) == MZ_OK ? f->word : 0, found = 0, at = 0;
+    while (low < high) {
+        uint64_t middle = low + (high - low) / 2;
+        uint32_t kind = mz_giver_before(f, low, middle + 1, &found, &at);
+        if (kind && found == number) return kind == 4;
+        if (kind && found > number) high = at;
+        else low = middle + 1;
+    }
+    return 0;
+}
+
 static inline mz_code mz_asked_by(mz_tc *tc, uint32_t what, uint64_t txn, mz_asked *asked) {
     mz_frame *f;
     mz_code c = mz_enter(tc, MZ_KIND_TC, asked != NULL, &f);
@@ -431,9 +470,38 @@ static inline mz_code mz_asked_by(mz_tc *tc, uint32_t what, uint64_t txn, mz_ask
     c = mz_make(f, what);
     if (c != MZ_OK) return mz_leave(f, c);
     asked->next = (mz_next)f->kind;
-    if (asked->next == MZ_REQUEST || asked->next == MZ_DOWN) mz_get_wire(f, &asked->wire);
-    else asked->wire.number = f->number;
+    if (asked->next != MZ_REQUEST && asked->next != MZ_DOWN) {
+        asked->wire.number = f->number;
+        return mz_leave(f, c);
+    }
+    mz_get_wire(f, &asked->wire);
+    asked->wire.undoes = what == MZ_CALL_UNDO || (what == MZ_CALL_RETAKE && mz_is_undo(f, asked->wire.number));
     return mz_leave(f, c);
+}
+
+/* Keeps in mind a reply that the data component can't give, and says which code that is. */
+static inline mz_code mz_refused_as(mz_frame *f, uint16_t dc, const mz_reply *reply) {
+    mz_head *head = mz_head_of(f);
+    head->refused = *reply;
+    head->refused_dc = dc;
+    head->is_refused = 1;
+    return reply->said == MZ_OLD ? MZ_DEPOSED : MZ_DIVERGED;
+}
+
+/* Of a reply that was no answer to the open request of a transaction: MZ_STRANGER where it is another's, too. */
+static inline mz_code mz_why_no_answer(mz_frame *f, uint64_t txn, const mz_reply *reply) {
+    f->txn = txn;
+    if (mz_make(f, MZ_CALL_WIRE) != MZ_OK || f->number != reply->number || f->incarnation != reply->incarnation) return MZ_STRANGER;
+    return mz_refused_as(f, f->dc, reply);
+}
+
+/* The same of the operation under redo: the one behind the number that was redone last. */
+static inline mz_code mz_why_not_redone(mz_frame *f, uint16_t dc, const mz_reply *reply) {
+    f->dc = dc;
+    if (mz_make(f, MZ_CALL_SITE) != MZ_OK || f->kind != 2 || f->incarnation != reply->incarnation) return MZ_STRANGER;
+    f->dc = dc;
+    if (mz_make(f, MZ_CALL_REDO_BEHIND) != MZ_OK || f->kind != 1 || f->number != reply->number) return MZ_STRANGER;
+    return mz_refused_as(f, dc, reply);
 }
 
 /* ---- the transaction component: its procedures */
@@ -536,20 +604,37 @@ static inline mz_code mz_resend(mz_tc *tc, uint64_t txn, mz_wire *wire) {
     if (c != MZ_OK) return c;
     f->txn = txn;
     c = mz_make(f, MZ_CALL_WIRE);
-    if (c == MZ_OK) mz_get_wire(f, wire);
+    if (c != MZ_OK) return mz_leave(f, c);
+    mz_get_wire(f, wire);
+    wire->undoes = mz_is_undo(f, wire->number);
     return mz_leave(f, c);
 }
 
-/* Takes a reply in. MZ_STRANGER: it has another number, is of another incarnation than the known one,
- * its data component is down, or it can't be an answer to the operation; the transaction waits on.
- * MZ_NOTHING_OPEN. */
+/* Takes a reply in. MZ_STRANGER: it has another number, is of another incarnation than the known one, or
+ * its data component is down. MZ_DEPOSED: it says Old to the open number, as a component that has heard a higher mark
+ * from another transaction component; MZ_DIVERGED: nor can anything else of what it says be an answer to the
+ * operation. The transaction waits on. MZ_NOTHING_OPEN. */
 static inline mz_code mz_answer(mz_tc *tc, uint64_t txn, const mz_reply *reply) {
     mz_frame *f;
     mz_code c = mz_enter(tc, MZ_KIND_TC, reply != NULL, &f);
     if (c != MZ_OK) return c;
     f->txn = txn;
     mz_put_reply(f, reply);
-    return mz_leave(f, mz_make(f, MZ_CALL_ANSWER));
+    c = mz_make(f, MZ_CALL_ANSWER);
+    return mz_leave(f, c == MZ_STRANGER ? mz_why_no_answer(f, txn, reply) : c);
+}
+
+/* The reply that the last MZ_DIVERGED or MZ_DEPOSED was said of, with its number, and its data component; each may be
+ * NULL. MZ_NO_PLACE: neither was said yet. */
+static inline mz_code mz_refused_reply(mz_tc *tc, uint16_t *dc, mz_reply *reply) {
+    mz_frame *f;
+    mz_code c = mz_enter(tc, MZ_KIND_TC, 1, &f);
+    if (c != MZ_OK) return c;
+    const mz_head *head = mz_head_of(f);
+    if (!head->is_refused) return mz_leave(f, MZ_NO_PLACE);
+    if (dc) *dc = (uint16_t)head->refused_dc;
+    if (reply) *reply = head->refused;
+    return mz_leave(f, MZ_OK);
 }
 
 /* Gives the open request up, and says its number (which may be NULL): nobody answers it any more. Its
@@ -776,15 +861,17 @@ static inline mz_code mz_redo_some(mz_tc *tc, uint16_t dc, mz_wire *wires, size_
     return mz_leave(f, c);
 }
 
-/* Takes the reply to the operation under redo, which has to say what was said to it before. MZ_STRANGER:
- * it doesn't, or is another's. */
+/* Takes the reply to the operation under redo, which has to say what was said to it before. MZ_STRANGER: it is
+ * another's. MZ_DIVERGED: it says something else, so that the storage isn't what the log has made of it: nothing of it is
+ * to be trusted, and a copy of it has to take its place. MZ_DEPOSED: it says Old. */
 static inline mz_code mz_redone(mz_tc *tc, uint16_t dc, const mz_reply *reply) {
     mz_frame *f;
     mz_code c = mz_enter(tc, MZ_KIND_TC, reply != NULL, &f);
     if (c != MZ_OK) return c;
     f->dc = dc;
     mz_put_reply(f, reply);
-    return mz_leave(f, mz_make(f, MZ_CALL_REDONE));
+    c = mz_make(f, MZ_CALL_REDONE);
+    return mz_leave(f, c == MZ_STRANGER ? mz_why_not_redone(f, dc, reply) : c);
 }
 
 /* ---- its log */
@@ -832,12 +919,6 @@ typedef struct {
     mz_outcome outcome; /* end, with aborted */
     uint64_t aborted;
 } mz_event;
-
-static inline uint64_t mz_little(const uint8_t *at, int bytes) {
-    uint64_t n = 0;
-    for (int i = bytes; i-- > 0;) n = n << 8 | at[i];
-    return n;
-}
 
 /* What the 96 bytes of an event say. */
 static inline void mz_event_of(const uint8_t bytes[MZ_EVENT_BYTES], mz_event *event) {
@@ -1031,6 +1112,9 @@ static inline mz_code mz_hear(mz_tc *tc, uint16_t dc, const mz_news *news, int *
     return c == MZ_OLD_NEWS ? MZ_OK : c;
 }
 
+/* What a refused reply says that doesn't come otherwise if it is asked for once more. */
+static inline int mz_is_final(mz_code c) { return c == MZ_DIVERGED || c == MZ_DEPOSED; }
+
 /* Redoes while wires are answered, and while restarts may be heard of. A wire is the same until it is redone, by whomever. */
 static inline mz_code mz_redo_within(mz_tc *tc, uint16_t dc, mz_carry *carry, void *context, int tries, int *restarts,
                                      int *up) {
@@ -1046,8 +1130,8 @@ static inline mz_code mz_redo_within(mz_tc *tc, uint16_t dc, mz_carry *carry, vo
         number = wire.number;
         incarnation = wire.incarnation;
         mz_carried carried = carry(context, &wire, &reply, &news);
-        if (carried == MZ_REPLIED) (void)mz_redone(tc, dc, &reply);
-        if (carried == MZ_RESTARTED) c = mz_hear(tc, dc, &news, restarts);
+        if (carried == MZ_REPLIED && mz_is_final(c = mz_redone(tc, dc, &reply))) return c;
+        c = carried == MZ_RESTARTED ? mz_hear(tc, dc, &news, restarts) : MZ_OK;
         if (c != MZ_OK) return c;
     }
 }
@@ -1081,12 +1165,14 @@ static inline mz_code mz_carry_open(mz_tc *tc, uint64_t txn, mz_asked *asked, mz
         mz_reply reply;
         mz_news news = {0, 0};
         mz_carried carried = carry(context, &asked->wire, &reply, &news);
-        if (carried == MZ_REPLIED && mz_answer(tc, txn, &reply) == MZ_OK) {
+        if (carried == MZ_REPLIED) c = mz_answer(tc, txn, &reply);
+        if (carried == MZ_REPLIED && c == MZ_OK) {
             asked->next = MZ_RUNNING;
             *said = reply.said;
             return MZ_OK;
         }
-        if (carried == MZ_RESTARTED) c = mz_hear(tc, asked->wire.record.dc, &news, &restarts);
+        if (mz_is_final(c)) return c;
+        c = carried == MZ_RESTARTED ? mz_hear(tc, asked->wire.record.dc, &news, &restarts) : MZ_OK;
         if (c == MZ_OK) c = mz_renew(tc, txn, asked, carry, context, tries, &restarts);
     }
     return c;
@@ -1097,7 +1183,7 @@ static inline mz_code mz_carry_open(mz_tc *tc, uint64_t txn, mz_asked *asked, mz
 /* Redoes what a data component that is down has lost, by one thread. Each wire is carried `tries` times at
  * most, and so many restarts are heard of at most. *up is 1 where it is up behind this; else it is still
  * down: a wire wasn't answered, or it restarted too often. MZ_BAD_ARGUMENT where tries isn't above 0; as
- * mz_redo_next, and MZ_FORGOTTEN of its news. */
+ * mz_redo_next; MZ_FORGOTTEN of its news; MZ_DIVERGED and MZ_DEPOSED as mz_redone, and mz_refused_reply has the number. */
 static inline mz_code mz_redo(mz_tc *tc, uint16_t dc, mz_carry *carry, void *context, int tries, int *up) {
     int restarts = tries;
     if (!carry || !up || tries < 1) return MZ_BAD_ARGUMENT;
@@ -1123,8 +1209,9 @@ static inline mz_code mz_run_until_over(mz_tc *tc, uint64_t txn, mz_carry *carry
             c = mz_carry_open(tc, txn, &asked, carry, context, tries, &said);
             *stopped = asked.next == MZ_DOWN ? MZ_DOWN : MZ_WAITS;
             if (c == MZ_NOTHING_OPEN) return MZ_OK;
+            if (asked.next == MZ_REQUEST && asked.wire.undoes) *stopped = MZ_UNDOING;
             if (c != MZ_OK || asked.next != MZ_RUNNING) return c;
-            full = undoing && said == MZ_NO_ROOM;
+            full = asked.wire.undoes && said == MZ_NO_ROOM;
             if (full) undoing = 0;
             break;
         case MZ_UNDOING:
@@ -1144,12 +1231,13 @@ static inline mz_code mz_run_until_over(mz_tc *tc, uint64_t txn, mz_carry *carry
  *   MZ_OVER: it has ended, as *receipt says;
  *   MZ_WAITS: nobody answered;
  *   MZ_DOWN: its data component is down, and a wire of its redo wasn't answered;
- *   MZ_UNDOING: what undoes a write found no room;
- *   MZ_STUCK: so it was under four numbers, which are all that it has.
- * Nothing is given up: behind MZ_WAITS, MZ_DOWN and MZ_UNDOING wait a while, and call this again; it keeps its locks. Or
- * mz_give_up, behind which this answers MZ_WAITS, and carries nothing, until mz_retake. If a lock of yours is held round
- * this call, `carry` may let it go while it carries, for calls on other transactions. MZ_NO_TXN; MZ_FORGOTTEN of news:
- * the request stays open; MZ_BAD_ARGUMENT where tries isn't above 0. */
+ *   MZ_UNDOING: what undoes a write wasn't answered, or found no room;
+ *   MZ_STUCK: it found no room under four numbers, which are all that it has.
+ * Nothing is given up: behind MZ_WAITS and MZ_DOWN wait a while, behind MZ_UNDOING longer each time, since one of four numbers
+ * may be spent, and call this again; it keeps its locks. Or mz_give_up, behind which this answers MZ_WAITS, and carries
+ * nothing, until mz_retake. If a lock of yours is held round this call, `carry` may let it go while it carries, for calls
+ * on other transactions. MZ_NO_TXN; MZ_BAD_ARGUMENT where tries isn't above 0; of what a data component says, while the
+ * request stays open: MZ_FORGOTTEN of news, MZ_DIVERGED and MZ_DEPOSED as mz_answer and mz_redone (mz_refused_reply). */
 static inline mz_code mz_run(mz_tc *tc, uint64_t txn, mz_carry *carry, void *context, int tries, mz_receipt *receipt,
                              mz_next *stopped) {
     if (!receipt) return MZ_BAD_ARGUMENT;
@@ -1356,6 +1444,8 @@ static inline const char *mz_code_text(mz_code code) {
     case MZ_OLD_NEWS: return "OldNews";
     case MZ_NOT_DOWN: return "NotDown";
     case MZ_FORGOTTEN: return "Forgotten";
+    case MZ_DIVERGED: return "Diverged";
+    case MZ_DEPOSED: return "Deposed";
     case MZ_NOTHING_YET: return "NothingYet";
     case MZ_TXNS_OPEN: return "TxnsOpen";
     case MZ_ONE_DOWN: return "OneDown";

@@ -5,7 +5,7 @@
 #include "storage.h"
 
 /* EVENTS: of a transfer. */
-enum { TRIES = 3, TARGETS = 20, OPENING = 1 << 30, EVENTS = 10, PATIENCE = 60000, REST = 2000 };
+enum { TRIES = 3, TARGETS = 20, OPENING = 1 << 30, EVENTS = 10, PATIENCE = 60000, REST = 2000, UNDO_REST = 1000000 };
 enum { DEPOSIT_HERE, DEPOSIT_THERE, MOVE, TOUCH, BALANCES, PROCEDURES };
 
 static const char *const names[PROCEDURES] = {"deposit_here", "deposit_there", "move", "touch", "balances"};
@@ -63,9 +63,10 @@ static mz_carried carry(void *context, const mz_wire *wire, mz_reply *reply, mz_
     return is_lost && carried == MZ_REPLIED ? MZ_LOST : carried;
 }
 
-static void rest(client *e) {
+/* Longer where an undo waits, which has four numbers. */
+static void rest(client *e, mz_next stopped) {
     pthread_mutex_unlock(&e->lock);
-    usleep(REST);
+    usleep(stopped == MZ_UNDOING ? UNDO_REST : REST);
     pthread_mutex_lock(&e->lock);
 }
 
@@ -75,7 +76,7 @@ static void run(client *e, uint64_t txn) {
     while (stopped != MZ_OVER) {
         mz_code c = mz_run_until_over(e->tc, txn, carry, e, TRIES, &stopped);
         if (c != MZ_OK || stopped == MZ_STUCK) die("a call", c);
-        if (stopped != MZ_OVER) rest(e);
+        if (stopped != MZ_OVER) rest(e, stopped);
     }
 }
 

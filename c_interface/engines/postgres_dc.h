@@ -3,9 +3,9 @@
  * is performed once, whatever is lost, repeated or killed. Records may be read by SQL, with what open transactions
  * have written so far: select key, mz.word(value, 0) from mz.records where tab = 0.
  *
- * The commit is asynchronous, unless it is asked for at once: a server that crashes loses its last ones. mz.alive is an
- * unlogged table, which PostgreSQL empties whenever it recovers, of a killed server process too. Where it is empty, what
- * is answered next is news of another incarnation.
+ * The commit is asynchronous, unless it is asked for at once: a server that crashes loses its last ones. So does one whose
+ * backend is killed, while its start time stays. mz.alive is an unlogged table, which PostgreSQL empties whenever it
+ * recovers, of a killed backend too. Where it is empty, what is answered next is news of another incarnation.
  *
  * Where a copy of a server that was shut down is put back by hand, mz.alive is as it was: delete from mz.alive, before the
  * first wire. A base backup and a promoted replica need nothing, nor does a dump with --no-unlogged-table-data. */

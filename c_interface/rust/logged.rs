@@ -4,7 +4,9 @@
 mod mazzulpe;
 
 use mazzulpe::log::{Device, Log, LogError};
-use mazzulpe::{Carried, Dc, LOG_FAILED, LOG_IN_USE, NO_SESSION, Next, Outcome, Ran, Refusal, Tc, Wire};
+use mazzulpe::{
+    Carried, DEPOSED, DIVERGED, Dc, LOG_FAILED, LOG_IN_USE, NO_SESSION, Next, Outcome, Ran, Refusal, Said, Tc, Wire,
+};
 use std::fs;
 use std::io;
 use std::path::Path;
@@ -171,6 +173,39 @@ fn fails(storage: &Storage) -> Result<(), Failed> {
     Ok(())
 }
 
+/// A data component that says what can't be, and what undoes an abort: `touch` reads (2), updates (3), and undoes (4).
+fn what_cannot_be() -> Result<(), Failed> {
+    let (mut tc, mut dc) = (started()?, Dc::new(100, 1000).map_err(told)?);
+    let admitted = |tc: &mut Tc, name: &str, args: &[u64]| -> Result<u64, Failed> {
+        let procedure = tc.find(name).map_err(told)?;
+        tc.admit(procedure, args).map_err(|it| format!("{it:?}").into())
+    };
+    let carried = |dc: &mut Dc, wire: &Wire, said: Option<Said>| {
+        let reply = dc.perform(wire);
+        reply.map_or(Carried::Lost, |it| Carried::Replied(mazzulpe::Reply { said: said.unwrap_or(it.said), ..it }))
+    };
+    let txn = admitted(&mut tc, "deposit_here", &[1, 5])?;
+    let deposed = tc.run(txn, 3, |wire| carried(&mut dc, wire, Some(Said::Old))).is_err_and(|it| it == DEPOSED);
+    let number = tc.refused_reply().map(|(_, reply)| reply.number);
+    println!("deposed: {deposed}, number {number:?}");
+    tc.run(txn, 3, |wire| carried(&mut dc, wire, None)).map_err(told)?;
+    let news = dc.restart().map_err(told)?;
+    tc.told(0, news).map_err(told)?;
+    let diverged = tc.redo(0, 3, |wire| carried(&mut dc, wire, Some(Said::Duplicate))).is_err_and(|it| it == DIVERGED);
+    let number = tc.refused_reply().map(|(_, reply)| reply.number);
+    println!("diverged: {diverged}, number {number:?}");
+    tc.redo(0, 3, |wire| carried(&mut dc, wire, None)).map_err(told)?;
+    let txn = admitted(&mut tc, "touch", &[1])?;
+    let mut undoes = Vec::new();
+    let ran = tc.run(txn, 3, |wire| {
+        undoes.push((wire.number, wire.undoes));
+        if wire.undoes { Carried::Lost } else { carried(&mut dc, wire, None) }
+    });
+    println!("an undo that isn't answered: {:?}, {undoes:?}", ran.map_err(told)?);
+    println!("sent again: {}", tc.resend(txn).map_err(told)?.undoes);
+    Ok(())
+}
+
 fn main() -> Result<(), Failed> {
     let folder = std::env::temp_dir().join(format!("mazzulpe-rust-{}", std::process::id()));
     fs::create_dir(&folder)?;
@@ -178,6 +213,7 @@ fn main() -> Result<(), Failed> {
     let dc = || Dc::new(100, 10000).map(Mutex::new).map_err(told);
     let storage = Storage { dcs: [dc()?, dc()?], sessions: Mutex::new(Vec::new()) };
     let seen = lives(&path, &storage).and_then(|()| comes_back(&path, &storage)).and_then(|()| fails(&storage));
+    what_cannot_be()?;
     fs::remove_dir_all(&folder)?;
     seen
 }

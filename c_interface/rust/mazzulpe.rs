@@ -104,6 +104,7 @@ unsafe extern "C" {
 struct Handle {
     frame: NonNull<Frame>,
     session: u64,
+    refused: Option<(u16, Reply)>,
 }
 
 // SAFETY: a handle has no ties to the thread that made it, and the library proves its state `Send`.
@@ -125,7 +126,7 @@ impl Handle {
         let frame = NonNull::new(room.cast::<Frame>()).ok_or(MEMORY)?;
         // SAFETY: it is room for an engine, aligned as it has to be, and nobody else's.
         unsafe { mazzulpe_open(frame.as_ptr()) };
-        let mut handle = Handle { frame, session: 0 };
+        let mut handle = Handle { frame, session: 0, refused: None };
         handle.frame().word = word;
         handle.frame().place = place;
         handle.call(what)?;
@@ -232,7 +233,63 @@ impl Handle {
     fn wire(&mut self) -> Wire {
         let (op, session) = (self.op(), self.session);
         let f = self.frame();
-        Wire { number: f.number, low_water: f.low_water, incarnation: f.incarnation, redo: f.redo != 0, op, session }
+        let (number, low_water, incarnation, redo) = (f.number, f.low_water, f.incarnation, f.redo != 0);
+        Wire { number, low_water, incarnation, redo, op, session, undoes: false }
+    }
+
+    /// The last event from `low` to before `high` that gave a number out: whether it undoes, the number, and its place.
+    fn giver_before(&mut self, low: u64, high: u64) -> Option<(bool, u64, u64)> {
+        for at in (low..high).rev() {
+            self.frame().place = at;
+            self.call(call::LOG_BYTES).ok()?;
+            let bytes = &self.frame().bytes;
+            let number = u64::from_le_bytes(bytes[16..24].try_into().expect("8 bytes"));
+            if bytes[0] == 2 || bytes[0] == 4 {
+                return Some((bytes[0] == 4, number, at));
+            }
+        }
+        None
+    }
+
+    /// Whether this open request undoes a write, by its event in the log, where numbers rise.
+    fn is_undo(&mut self, number: u64) -> bool {
+        let (mut low, mut high) = (0, self.counted(call::LOG_LENGTH));
+        while low < high {
+            let middle = low + (high - low) / 2;
+            match self.giver_before(low, middle + 1) {
+                Some((undoes, found, _)) if found == number => return undoes,
+                Some((_, found, at)) if found > number => high = at,
+                _ => low = middle + 1,
+            }
+        }
+        false
+    }
+
+    /// Keeps in mind a reply that the data component can't give, and says which refusal that is.
+    fn refused_as(&mut self, dc: u16, reply: &Reply) -> Refusal {
+        self.refused = Some((dc, *reply));
+        if matches!(reply.said, Said::Old) { DEPOSED } else { DIVERGED }
+    }
+
+    /// Of a reply that was no answer to the open request: [`STRANGER`] where it is another's, too.
+    fn why_no_answer(&mut self, txn: u64, reply: &Reply) -> Refusal {
+        self.frame().txn = txn;
+        let is_open = self.call(call::WIRE).is_ok();
+        let f = self.frame();
+        let (same, dc) = ((f.number, f.incarnation) == (reply.number, reply.incarnation), f.dc);
+        if is_open && same { self.refused_as(dc, reply) } else { STRANGER }
+    }
+
+    /// The same of the operation under redo: the one behind the number that was redone last.
+    fn why_not_redone(&mut self, dc: u16, reply: &Reply) -> Refusal {
+        self.frame().dc = dc;
+        let is_down = self.call(call::SITE).is_ok() && self.frame().kind == 2;
+        if !is_down || self.frame().incarnation != reply.incarnation {
+            return STRANGER;
+        }
+        self.frame().dc = dc;
+        let is_left = self.call(call::REDO_BEHIND).is_ok() && self.frame().kind == 1;
+        if is_left && self.frame().number == reply.number { self.refused_as(dc, reply) } else { STRANGER }
     }
 
     fn put_wire(&mut self, wire: &Wire) {
@@ -245,7 +302,7 @@ impl Handle {
         self.put_record(&record);
         let f = self.frame();
         (f.op, f.value, f.number) = (op, value, wire.number);
-        (f.low_water, f.incarnation, f.redo) = (wire.low_water, wire.incarnation, u32::from(wire.redo));
+        (f.low_water, f.incarnation, f.redo) = (wire.low_water, wire.incarnation, u32::from(wire.redo || wire.undoes));
     }
 
     fn put_said(&mut self, said: &Said) {
@@ -346,7 +403,11 @@ impl Tc {
         self.frame().txn = txn;
         self.handle.call(what)?;
         Ok(match self.frame().kind {
-            1 => Next::Request(self.handle.wire()),
+            1 => {
+                let wire = self.handle.wire();
+                let undoes = what == call::UNDO || what == call::RETAKE && self.handle.is_undo(wire.number);
+                Next::Request(Wire { undoes, ..wire })
+            }
             2 => Next::Undoing,
             3 => Next::Over,
             4 => Next::Stuck(self.frame().number),
@@ -370,7 +431,8 @@ impl Tc {
     pub fn resend(&mut self, txn: u64) -> Result<Wire, Refusal> {
         self.frame().txn = txn;
         self.handle.call(call::WIRE)?;
-        Ok(self.handle.wire())
+        let wire = self.handle.wire();
+        Ok(Wire { undoes: self.handle.is_undo(wire.number), ..wire })
     }
 
     /// The open request of a transaction, also where nobody holds it.
@@ -378,11 +440,19 @@ impl Tc {
         self.next(call::RETAKE, txn)
     }
 
-    /// Takes a reply in.
+    /// Takes a reply in. [`DIVERGED`] and [`DEPOSED`]: it is the data component's to this very wire, and can't be.
     pub fn answer(&mut self, txn: u64, reply: &Reply) -> Result<(), Refusal> {
         self.handle.put_reply(reply);
         self.frame().txn = txn;
-        self.handle.call(call::ANSWER)
+        self.handle.call(call::ANSWER).map_err(|it| match it {
+            STRANGER => self.handle.why_no_answer(txn, reply),
+            other => other,
+        })
+    }
+
+    /// The reply that the last [`DIVERGED`] or [`DEPOSED`] was said of, and its data component.
+    pub fn refused_reply(&mut self) -> Option<(u16, Reply)> {
+        self.handle.refused
     }
 
     /// Gives the open request up, and says its number: its transaction is in doubt.
@@ -499,11 +569,14 @@ impl Tc {
         Ok(wires)
     }
 
-    /// Takes the reply to the operation under redo.
+    /// Takes the reply to the operation under redo. [`DIVERGED`]: it says otherwise than the log.
     pub fn redone(&mut self, dc: u16, reply: &Reply) -> Result<(), Refusal> {
         self.handle.put_reply(reply);
         self.frame().dc = dc;
-        self.handle.call(call::REDONE)
+        self.handle.call(call::REDONE).map_err(|it| match it {
+            STRANGER => self.handle.why_not_redone(dc, reply),
+            other => other,
+        })
     }
 
     /// What is to be kept of a data component now.

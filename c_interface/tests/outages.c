@@ -6,9 +6,10 @@
  *     test_outages [SECONDS]
  *
  * Then by one thread: a request that was given up is taken up again, and an undo that finds no room goes on where
- * there is room again, and is stuck behind its fourth number. */
+ * there is room again, and is stuck behind its fourth number; one that isn't answered spends none. */
 #define _POSIX_C_SOURCE 200809L
 #include "mazzulpe_object.h"
+#include "deleting.h"
 #include "seen.h"
 #include <pthread.h>
 #include <time.h>
@@ -164,14 +165,15 @@ static void by_threads(long seconds) {
 
 /* ---- by one thread */
 
-/* How a wire is carried: performed, lost, or an insert finds no room. */
-typedef struct { bank *b; int loses, full, carried; } way;
+/* How a wire is carried: performed, lost, or an insert finds no room, or is lost. */
+typedef struct { bank *b; int loses, full, carried, silent; } way;
 
 static mz_carried by_way(void *context, const mz_wire *wire, mz_reply *reply, mz_news *news) {
     way *w = (way *)context;
     w->carried++;
     if (w->loses) return MZ_LOST;
     if (!w->full || wire->op != MZ_INSERT) return performed(w->b, wire, reply, news);
+    if (w->silent) return MZ_LOST;
     memset(reply, 0, sizeof *reply);
     reply->number = wire->number;
     reply->said = MZ_NO_ROOM;
@@ -190,7 +192,7 @@ static mz_next ran(way *w, uint64_t txn) {
 static void given_up(void) {
     static bank b;
     const uint64_t args[] = {1, 10};
-    way w = {&b, 1, 0, 0};
+    way w = {&b, 1, 0, 0, 0};
     uint64_t txn = 0, other = 0;
     int blocked = 7;
     mz_open open;
@@ -207,16 +209,13 @@ static void given_up(void) {
     closed(&b);
 }
 
-/* A call that deletes record 0/0/1, and aborts: what undoes that is an insert. */
+/* A call that deletes record 0/0/1, and aborts. */
 static uint64_t deletes(bank *b) {
-    static const uint8_t code[] = {0xb7, 1, 0, 0, 0, 0, 0, 0, 0x85, 0, 0, 0, 4, 0, 0, 0,  /* mov r1, 0; call 4 */
-                                   0xb7, 0, 0, 0, 7, 0, 0, 0, 0x95, 0, 0, 0, 0, 0, 0, 0}; /* mov r0, 7; exit */
-    static const mz_slot slot = {1, 0, 0, 0, 1};
     const uint64_t args[] = {1, 10};
     uint64_t number = 0, txn = 0;
-    way w = {b, 0, 0, 0};
+    way w = {b, 0, 0, 0, 0};
     started(b);
-    SEEN(mz_load(b->tc, "deletes", code, sizeof code, &slot, 1, 0, &number, NULL) == MZ_OK);
+    SEEN(load_deleting(b->tc, &number) == MZ_OK);
     SEEN(mz_admit(b->tc, 0, args, 2, &txn, NULL, NULL) == MZ_OK && ran(&w, txn) == MZ_OVER);
     SEEN(mz_admit(b->tc, number, NULL, 0, &txn, NULL, NULL) == MZ_OK);
     return txn;
@@ -224,7 +223,7 @@ static uint64_t deletes(bank *b) {
 
 static void without_room(void) {
     static bank b;
-    way w = {&b, 0, 1, 0};
+    way w = {&b, 0, 1, 0, 0};
     mz_open open;
     uint64_t txn = deletes(&b);
     SEEN(ran(&w, txn) == MZ_UNDOING && w.carried == 2 && ran(&w, txn) == MZ_UNDOING && w.carried == 1);
@@ -233,6 +232,12 @@ static void without_room(void) {
     closed(&b);
     txn = deletes(&b);
     w.full = 1;
+    w.silent = 1;
+    for (int i = 0; i < 100; i++) SEEN(ran(&w, txn) == MZ_UNDOING && w.carried == TRIES + !i && mz_last_number(b.tc) == 4);
+    w.silent = 0;
+    SEEN(ran(&w, txn) == MZ_UNDOING && mz_last_number(b.tc) == 4);
+    closed(&b);
+    txn = deletes(&b);
     for (int i = 0; i < 3; i++) SEEN(ran(&w, txn) == MZ_UNDOING);
     SEEN(ran(&w, txn) == MZ_STUCK && w.carried == 1);
     w.full = 0;

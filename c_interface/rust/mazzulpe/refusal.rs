@@ -38,6 +38,10 @@ pub const OLD_NEWS: Refusal = code('I', 15);
 pub const NOT_DOWN: Refusal = code('I', 16);
 /// The data component lost what the log can't redo any more.
 pub const FORGOTTEN: Refusal = code('Q', 3);
+/// The data component says otherwise than the log, or than can be.
+pub const DIVERGED: Refusal = code('D', 1);
+/// It says Old to what isn't old: it serves another transaction component.
+pub const DEPOSED: Refusal = code('D', 2);
 pub const NOTHING_YET: Refusal = code('G', 1);
 pub const TXNS_OPEN: Refusal = code('G', 2);
 pub const ONE_DOWN: Refusal = code('G', 4);
@@ -111,6 +115,8 @@ impl Refusal {
             OLD_NEWS => "OldNews",
             NOT_DOWN => "NotDown",
             FORGOTTEN => "Forgotten",
+            DIVERGED => "Diverged",
+            DEPOSED => "Deposed",
             NOTHING_YET => "NothingYet",
             TXNS_OPEN => "TxnsOpen",
             ONE_DOWN => "OneDown",

@@ -1,8 +1,8 @@
 //! Whole calls: a transaction to its end, and a redo, over a function that carries wires.
 
 use super::{
-    BAD_ARGUMENT, DC_DOWN, NOT_DOWN, NOTHING_OPEN, News, Next, OLD_NEWS, Receipt, Refusal, Reply, Said, Tc, Value, Wire,
-    call,
+    BAD_ARGUMENT, DC_DOWN, DEPOSED, DIVERGED, NOT_DOWN, NOTHING_OPEN, News, Next, OLD_NEWS, Receipt, Refusal, Reply, Said,
+    Tc, Value, Wire, call,
 };
 
 /// What became of a wire.
@@ -15,7 +15,8 @@ pub enum Carried {
     Restarted(News),
 }
 
-/// Where [`Tc::run`] stopped. Nothing is given up: behind `Waits`, `Down` and `Undoing` wait a while, and run it again.
+/// Where [`Tc::run`] stopped. Nothing is given up: behind `Waits` and `Down` wait a while, behind `Undoing` longer each
+/// time, and run it again.
 #[derive(Clone, Copy, Debug, PartialEq, Eq)]
 pub enum Ran<End = Receipt> {
     Over(End),
@@ -23,10 +24,24 @@ pub enum Ran<End = Receipt> {
     Waits,
     /// Its data component is down, and a wire of its redo wasn't answered.
     Down,
-    /// What undoes a write found no room.
+    /// What undoes a write wasn't answered, or found no room.
     Undoing,
-    /// So it was under four numbers, of which this is the last.
+    /// It found no room under four numbers, of which this is the last.
     Stuck(u64),
+}
+
+/// What a refused reply says that doesn't come otherwise if it is asked for once more.
+fn unless_final(taken: Result<(), Refusal>) -> Result<bool, Refusal> {
+    match taken {
+        Err(refusal @ (DIVERGED | DEPOSED)) => Err(refusal),
+        taken => Ok(taken.is_ok()),
+    }
+}
+
+/// What became of the open request, which undoes a write perhaps.
+struct Open {
+    undoes: bool,
+    said: Option<Said>,
 }
 
 impl Tc {
@@ -62,7 +77,7 @@ impl Tc {
             match carry(&wire) {
                 Carried::Lost => {}
                 Carried::Replied(reply) => {
-                    let _the_same_comes_again = self.redone(dc, &reply);
+                    unless_final(self.redone(dc, &reply))?;
                 }
                 Carried::Restarted(news) => self.hear(dc, news, restarts)?,
             }
@@ -107,7 +122,7 @@ impl Tc {
         made: Option<Wire>,
         tries: u32,
         carry: &mut impl FnMut(&Wire) -> Carried,
-    ) -> Result<Option<Said>, Refusal> {
+    ) -> Result<Open, Refusal> {
         let mut restarts = tries;
         let mut wire = match made {
             Some(wire) => wire,
@@ -115,18 +130,22 @@ impl Tc {
         };
         for _ in 0..tries {
             match carry(&wire) {
-                Carried::Replied(reply) if self.answer(txn, &reply).is_ok() => return Ok(Some(reply.said)),
+                Carried::Replied(reply) => {
+                    if unless_final(self.answer(txn, &reply))? {
+                        return Ok(Open { undoes: wire.undoes, said: Some(reply.said) });
+                    }
+                }
                 Carried::Restarted(news) => self.hear(wire.op.record().dc, news, &mut restarts)?,
-                Carried::Replied(_) | Carried::Lost => {}
+                Carried::Lost => {}
             }
             wire = self.renew(txn, tries, &mut restarts, carry)?;
         }
-        Ok(None)
+        Ok(Open { undoes: wire.undoes, said: None })
     }
 
     /// Runs an admitted transaction until it ends or nobody answers. Each wire is carried `tries` times at most; a data
     /// component that is down, or says that it restarted, is redone, and while one request waits so many restarts are
-    /// heard of at most.
+    /// heard of at most. [`DIVERGED`] and [`DEPOSED`] as [`Tc::answer`] and [`Tc::redone`]: the request stays open.
     pub fn run(&mut self, txn: u64, tries: u32, carry: impl FnMut(&Wire) -> Carried) -> Result<Ran, Refusal> {
         Ok(match self.run_until_over(txn, tries, carry)? {
             Ran::Over(()) => Ran::Over(self.end(txn)?),
@@ -170,8 +189,9 @@ impl Tc {
                 Next::Stuck(number) => return Ok(Ran::Stuck(number)),
             };
             match self.carry_open(txn, made, tries, &mut carry) {
-                Ok(Some(said)) => full = undoing && matches!(said, Said::NoRoom),
-                Ok(None) | Err(NOTHING_OPEN) => return Ok(Ran::Waits),
+                Ok(Open { undoes, said: Some(said) }) => full = undoes && matches!(said, Said::NoRoom),
+                Ok(Open { undoes: true, said: None }) => return Ok(Ran::Undoing),
+                Ok(Open { undoes: false, said: None }) | Err(NOTHING_OPEN) => return Ok(Ran::Waits),
                 Err(DC_DOWN) => return Ok(Ran::Down),
                 Err(refusal) => return Err(refusal),
             }

@@ -47,6 +47,8 @@ pub struct Wire {
     pub op: Op,
     /// Whose number it is, of the transaction components over the same storage ([`Tc::session`]).
     pub session: u64,
+    /// It undoes a write: it is to be performed where the data component is full, too.
+    pub undoes: bool,
 }
 
 #[derive(Clone, Copy, Debug)]
