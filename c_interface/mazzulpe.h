@@ -253,6 +253,7 @@ typedef struct {
     uint64_t session;    /* of a transaction component: which one it is */
     mz_reply refused;    /* to the data component refused_dc, which may be 0 too: what mz_refused_reply says */
     uint32_t refused_dc, is_refused;
+    uint64_t is_begun, spared; /* of a data component: 1 where mz_dc_begin gave it its session */
 } mz_head;
 
 typedef char mz_head_keeps_the_frame_aligned[sizeof(mz_head) % 16 ? -1 : 1];
@@ -1097,7 +1098,9 @@ static inline mz_code mz_set_session(mz_tc *tc, uint64_t session) {
 typedef enum {
     MZ_LOST,     /* no reply came */
     MZ_REPLIED,  /* *reply is the reply */
-    MZ_RESTARTED /* *news are the news of the data component, which didn't perform the wire */
+    MZ_RESTARTED, /* *news are the news of the data component, which didn't perform the wire */
+    MZ_RETIRED,  /* the data component serves another session than the wire's, and didn't perform it */
+    MZ_UNWRITTEN /* your log failed, so that the wire wasn't carried */
 } mz_carried;
 
 /* Carries a wire to its data component, which is wire->record.dc. */
@@ -1112,8 +1115,18 @@ static inline mz_code mz_hear(mz_tc *tc, uint16_t dc, const mz_news *news, int *
     return c == MZ_OLD_NEWS ? MZ_OK : c;
 }
 
-/* What a refused reply says that doesn't come otherwise if it is asked for once more. */
-static inline int mz_is_final(mz_code c) { return c == MZ_DIVERGED || c == MZ_DEPOSED; }
+/* What doesn't come otherwise if the wire is carried once more. */
+static inline int mz_is_final(mz_code c) { return c == MZ_DIVERGED || c == MZ_DEPOSED || c == MZ_LOG_FAILED; }
+
+/* What a wire that nobody performed is told as, where it is final. */
+static inline mz_code mz_not_carried(mz_tc *tc, const mz_wire *wire, mz_carried carried) {
+    mz_frame *f;
+    if (carried == MZ_UNWRITTEN) return MZ_LOG_FAILED;
+    if (carried != MZ_RETIRED) return MZ_OK;
+    mz_code c = mz_enter(tc, MZ_KIND_TC, 1, &f);
+    mz_reply reply = {wire->number, wire->incarnation, MZ_OLD, {0}};
+    return c == MZ_OK ? mz_leave(f, mz_refused_as(f, wire->record.dc, &reply)) : c;
+}
 
 /* Redoes while wires are answered, and while restarts may be heard of. A wire is the same until it is redone, by whomever. */
 static inline mz_code mz_redo_within(mz_tc *tc, uint16_t dc, mz_carry *carry, void *context, int tries, int *restarts,
@@ -1130,7 +1143,8 @@ static inline mz_code mz_redo_within(mz_tc *tc, uint16_t dc, mz_carry *carry, vo
         number = wire.number;
         incarnation = wire.incarnation;
         mz_carried carried = carry(context, &wire, &reply, &news);
-        if (carried == MZ_REPLIED && mz_is_final(c = mz_redone(tc, dc, &reply))) return c;
+        c = carried == MZ_REPLIED ? mz_redone(tc, dc, &reply) : mz_not_carried(tc, &wire, carried);
+        if (mz_is_final(c)) return c;
         c = carried == MZ_RESTARTED ? mz_hear(tc, dc, &news, restarts) : MZ_OK;
         if (c != MZ_OK) return c;
     }
@@ -1165,7 +1179,7 @@ static inline mz_code mz_carry_open(mz_tc *tc, uint64_t txn, mz_asked *asked, mz
         mz_reply reply;
         mz_news news = {0, 0};
         mz_carried carried = carry(context, &asked->wire, &reply, &news);
-        if (carried == MZ_REPLIED) c = mz_answer(tc, txn, &reply);
+        c = carried == MZ_REPLIED ? mz_answer(tc, txn, &reply) : mz_not_carried(tc, &asked->wire, carried);
         if (carried == MZ_REPLIED && c == MZ_OK) {
             asked->next = MZ_RUNNING;
             *said = reply.said;
@@ -1183,7 +1197,8 @@ static inline mz_code mz_carry_open(mz_tc *tc, uint64_t txn, mz_asked *asked, mz
 /* Redoes what a data component that is down has lost, by one thread. Each wire is carried `tries` times at
  * most, and so many restarts are heard of at most. *up is 1 where it is up behind this; else it is still
  * down: a wire wasn't answered, or it restarted too often. MZ_BAD_ARGUMENT where tries isn't above 0; as
- * mz_redo_next; MZ_FORGOTTEN of its news; MZ_DIVERGED and MZ_DEPOSED as mz_redone, and mz_refused_reply has the number. */
+ * mz_redo_next; MZ_FORGOTTEN of its news; MZ_DIVERGED and MZ_DEPOSED as mz_redone, and mz_refused_reply has the number;
+ * MZ_DEPOSED also of MZ_RETIRED, and MZ_LOG_FAILED of MZ_UNWRITTEN. */
 static inline mz_code mz_redo(mz_tc *tc, uint16_t dc, mz_carry *carry, void *context, int tries, int *up) {
     int restarts = tries;
     if (!carry || !up || tries < 1) return MZ_BAD_ARGUMENT;
@@ -1237,7 +1252,8 @@ static inline mz_code mz_run_until_over(mz_tc *tc, uint64_t txn, mz_carry *carry
  * may be spent, and call this again; it keeps its locks. Or mz_give_up, behind which this answers MZ_WAITS, and carries
  * nothing, until mz_retake. If a lock of yours is held round this call, `carry` may let it go while it carries, for calls
  * on other transactions. MZ_NO_TXN; MZ_BAD_ARGUMENT where tries isn't above 0; of what a data component says, while the
- * request stays open: MZ_FORGOTTEN of news, MZ_DIVERGED and MZ_DEPOSED as mz_answer and mz_redone (mz_refused_reply). */
+ * request stays open: MZ_FORGOTTEN of news, MZ_DIVERGED and MZ_DEPOSED as mz_answer and mz_redone (mz_refused_reply);
+ * MZ_DEPOSED also of MZ_RETIRED, and MZ_LOG_FAILED of MZ_UNWRITTEN. */
 static inline mz_code mz_run(mz_tc *tc, uint64_t txn, mz_carry *carry, void *context, int tries, mz_receipt *receipt,
                              mz_next *stopped) {
     if (!receipt) return MZ_BAD_ARGUMENT;
@@ -1255,12 +1271,27 @@ static inline mz_dc *mz_dc_new(uint64_t rows, uint64_t operations, mz_code *code
 
 static inline void mz_dc_free(mz_dc *dc) { mz_free(dc, MZ_KIND_DC); }
 
+/* From now on it performs this session's wires alone, of each incarnation; before this it performs any. MZ_BEGUN: it is
+ * another session's, whose numbers it doesn't forget: make a new one. */
+static inline mz_code mz_dc_begin(mz_dc *dc, uint64_t session) {
+    mz_frame *f;
+    mz_code c = mz_enter(dc, MZ_KIND_DC, 1, &f);
+    if (c != MZ_OK) return c;
+    mz_head *head = mz_head_of(f);
+    if (head->is_begun && head->session != session) return mz_leave(f, MZ_BEGUN);
+    head->is_begun = 1;
+    head->session = session;
+    return mz_leave(f, MZ_OK);
+}
+
 /* Performs a wire. MZ_SILENT: it is for another incarnation, or there is no room for a further operation;
- * there is no reply, and nothing but the low-water mark has changed. */
+ * there is no reply, and nothing but the low-water mark has changed. MZ_DEPOSED: it is another session's than the one that
+ * mz_dc_begin gave it, and nothing has changed. */
 static inline mz_code mz_dc_perform(mz_dc *dc, const mz_wire *wire, mz_reply *reply) {
     mz_frame *f;
     mz_code c = mz_enter(dc, MZ_KIND_DC, wire && reply, &f);
     if (c != MZ_OK) return c;
+    if (mz_head_of(f)->is_begun && mz_head_of(f)->session != wire->session) return mz_leave(f, MZ_DEPOSED);
     mz_put_wire(f, wire);
     c = mz_make(f, MZ_CALL_PERFORM);
     if (c == MZ_OK) mz_get_reply(f, reply);

@@ -1,4 +1,4 @@
-/* A data component in memory, which keeps the seven rules of docs/COMPONENTS.md. Compiled with WRONG it breaks
+/* A data component in memory, which keeps the eight rules of docs/COMPONENTS.md. Compiled with WRONG it breaks
  * one of them, so that `make try_component` can be seen to tell. */
 #include "component.h"
 #include <pthread.h>
@@ -19,10 +19,18 @@ enum {
     DOES_OTHER_INCARNATION,  /* a wire of another incarnation is performed */
     FULL_ANSWERS,            /* where it is full it answers that the record isn't there */
     FULL_KEEPS_NOT,          /* where it is full it performs, and doesn't keep the number */
-    CUTS_RECORDS_ALONE       /* its records are cut back, and its numbers aren't: what is sent again is left out */
+    CUTS_RECORDS_ALONE,      /* its records are cut back, and its numbers aren't: what is sent again is left out */
+    IGNORES_SESSION,         /* a wire of another session is performed */
+    FULL_REDOES_NOT,         /* where it is full it is silent to a redo */
+    IGNORES_TABLE,
+    CUTS_KEYS,               /* to 32 bits */
+    REVERSES_VALUE,          /* the bytes of a value */
+    FULL_UNDOES_NOT,         /* where it is full it is silent to what undoes */
+    SERVES_ANYONE,           /* a session begins whatever is served */
+    SERVES_AGAIN             /* a session that has ended begins again */
 };
 
-enum { RECORDS = 256, NUMBERS = 1 << 18 };
+enum { RECORDS = 256, NUMBERS = 1 << 18, SESSIONS = 1024 };
 
 typedef struct { int there; mz_record record; uint8_t value[MZ_VALUE]; } row;
 typedef struct { int kept; mz_reply reply; } answer;
@@ -32,10 +40,14 @@ typedef struct {
     uint64_t mark, last[4]; /* the numbers that were performed last */
 } store;
 
+/* Durable at once, and apart from what can be lost: the last one is served. */
+typedef struct { uint64_t begun[SESSIONS]; int count; } sessions;
+
 struct component {
     pthread_mutex_t lock;
     store now, kept;
-    uint64_t incarnation; /* durable at once, and apart from what can be lost */
+    sessions sessions;
+    uint64_t incarnation; /* as they */
     uint64_t at_checkpoint;
     int full, waits;
     mz_wire waiting;
@@ -50,10 +62,28 @@ component *component_open(const char *folder) {
 
 void component_close(component *c) { free(c); }
 
+static int is_wrong(int way) { return WRONG == way; }
+
+static int is_of(const row *r, const mz_record *record) {
+    int same_table = r->record.table == record->table || is_wrong(IGNORES_TABLE);
+    int same_key = is_wrong(CUTS_KEYS) ? (uint32_t)r->record.key == (uint32_t)record->key : r->record.key == record->key;
+    return r->there && same_table && same_key;
+}
+
+/* The bytes of a value, as they are put in and out. */
+static void copied(uint8_t *to, const uint8_t *from) {
+    memcpy(to, from, MZ_VALUE);
+    for (int i = 0; is_wrong(REVERSES_VALUE) && i < MZ_VALUE / 2; i++) {
+        uint8_t byte = to[i];
+        to[i] = to[MZ_VALUE - 1 - i];
+        to[MZ_VALUE - 1 - i] = byte;
+    }
+}
+
 static row *row_of(store *s, const mz_record *record, int wanted) {
     row *free_row = NULL;
     for (row *r = s->rows; r < s->rows + RECORDS; r++) {
-        if (r->there && r->record.table == record->table && r->record.key == record->key) return r;
+        if (is_of(r, record)) return r;
         if (!r->there) free_row = r;
     }
     if (wanted && free_row) free_row->record = *record;
@@ -66,13 +96,13 @@ static mz_said operate(store *s, const mz_wire *w, uint8_t *was) {
     if (w->op == MZ_INSERT) {
         if (!(r = row_of(s, &w->record, 1))) return MZ_NO_ROOM;
         r->there = 1;
-        memcpy(r->value, w->value, MZ_VALUE);
+        copied(r->value, w->value);
         return MZ_DONE;
     }
     if (!r) return w->op == MZ_READ ? MZ_ABSENT : MZ_MISSING;
     memcpy(was, r->value, MZ_VALUE);
     if (w->op == MZ_READ) return MZ_VALUE_IS;
-    if (w->op == MZ_UPDATE) memcpy(r->value, w->value, MZ_VALUE);
+    if (w->op == MZ_UPDATE) copied(r->value, w->value);
     if (w->op == MZ_DELETE) r->there = 0;
     return MZ_DONE_WAS;
 }
@@ -86,7 +116,12 @@ static mz_said by_now(store *s, const mz_wire *w, uint8_t *was) {
     return r ? MZ_DONE_WAS : MZ_MISSING;
 }
 
-static int is_wrong(int way) { return WRONG == way; }
+/* Whether it has no room for this wire: what undoes and what is redone finds some. */
+static int is_full(const component *c, const mz_wire *w) {
+    if (w->redo) return c->full && is_wrong(FULL_REDOES_NOT);
+    if (w->undoes) return c->full && is_wrong(FULL_UNDOES_NOT);
+    return c->full;
+}
 
 static mz_carried performed(component *c, const mz_wire *w, mz_reply *reply) {
     store *s = &c->now;
@@ -109,9 +144,9 @@ static mz_carried performed(component *c, const mz_wire *w, mz_reply *reply) {
         reply->incarnation = w->incarnation;
         return MZ_REPLIED;
     }
-    int is_full = c->full && !w->redo;
-    if (is_full && is_wrong(FULL_ANSWERS)) reply->said = w->op == MZ_READ ? MZ_ABSENT : MZ_MISSING;
-    if (is_full && !is_wrong(FULL_KEEPS_NOT)) return is_wrong(FULL_ANSWERS) ? MZ_REPLIED : MZ_LOST;
+    int has_none = is_full(c, w);
+    if (has_none && is_wrong(FULL_ANSWERS)) reply->said = w->op == MZ_READ ? MZ_ABSENT : MZ_MISSING;
+    if (has_none && !is_wrong(FULL_KEEPS_NOT)) return is_wrong(FULL_ANSWERS) ? MZ_REPLIED : MZ_LOST;
     if (is_wrong(ANSWERS_FIRST) && w->op == MZ_UPDATE && row_of(s, &w->record, 0)) {
         reply->said = by_now(s, w, reply->value);
         c->waiting = *w;
@@ -119,17 +154,40 @@ static mz_carried performed(component *c, const mz_wire *w, mz_reply *reply) {
     } else {
         reply->said = operate(s, w, reply->value);
     }
-    a->kept = !(is_full && is_wrong(FULL_KEEPS_NOT));
+    a->kept = !(has_none && is_wrong(FULL_KEEPS_NOT));
     a->reply = *reply;
     memmove(s->last + 1, s->last, 3 * sizeof *s->last);
     s->last[0] = w->number;
     return MZ_REPLIED;
 }
 
+static uint64_t served(const sessions *s) { return s->count ? s->begun[s->count - 1] : 0; }
+
+static int has_ended(const sessions *s, uint64_t session) {
+    for (int i = 0; i < s->count - 1; i++)
+        if (s->begun[i] == session) return !is_wrong(SERVES_AGAIN);
+    return 0;
+}
+
+/* Behind this a loss loses nothing of before it. */
+int component_begin(component *c, uint64_t session, uint64_t former) {
+    sessions *s = &c->sessions;
+    if (s->count && served(s) == session) return 1;
+    if (has_ended(s, session) || s->count == SESSIONS) return 0;
+    if (s->count && served(s) != former && !is_wrong(SERVES_ANYONE)) return 0;
+    s->begun[s->count++] = session;
+    memset(c->now.answers, 0, sizeof c->now.answers);
+    c->now.mark = 0;
+    c->kept = c->now;
+    return 1;
+}
+
 mz_carried component_carry(component *c, const mz_wire *wire, mz_reply *reply, mz_news *news) {
     mz_carried carried = MZ_RESTARTED;
     pthread_mutex_lock(&c->lock);
-    if (wire->incarnation == c->incarnation || is_wrong(DOES_OTHER_INCARNATION)) {
+    if (wire->session != served(&c->sessions) && !is_wrong(IGNORES_SESSION)) {
+        carried = MZ_RETIRED;
+    } else if (wire->incarnation == c->incarnation || is_wrong(DOES_OTHER_INCARNATION)) {
         carried = performed(c, wire, reply);
     } else {
         news->incarnation = c->incarnation;

@@ -8,12 +8,19 @@
 
 typedef struct component component;
 
-/* A component without records, in this folder, which is there and empty. NULL where that fails. */
+/* A component without records, in this folder, which is there and empty; it serves no session yet. NULL where that fails. */
 component *component_open(const char *folder);
 void component_close(component *c);
 
+/* Begins a session, for good before it answers 1, where none was begun, or the one that is served is `former`: its numbers
+ * and its mark are forgotten, its records stay, and it never comes back. The one that is served begins once more, and
+ * nothing changes. 0, and nothing has changed: it serves another than `former`, or this session has ended. Nothing is
+ * carried meanwhile. */
+int component_begin(component *c, uint64_t session, uint64_t former);
+
 /* Carries a wire, from several threads at once: MZ_REPLIED and the reply; MZ_RESTARTED and the news, where
- * the wire is for another incarnation; MZ_LOST where nothing comes back. */
+ * the wire is for another incarnation; MZ_RETIRED where it is of another session than the one that is served; MZ_LOST where
+ * nothing comes back. */
 mz_carried component_carry(component *c, const mz_wire *wire, mz_reply *reply, mz_news *news);
 
 /* Makes all that it has done durable, with its low-water mark. Nothing is carried meanwhile. */
@@ -24,7 +31,8 @@ int component_checkpoint(component *c);
  * is carried meanwhile. 0 where it doesn't come back. */
 int component_kill(component *c, int loses);
 
-/* From now on, or with 0 no more, it has no room for a further operation. What can't be filled does nothing. */
+/* From now on, or with 0 no more, it has no room for a further operation, but for what undoes or is redone. What can't be
+ * filled does nothing. Nothing is carried meanwhile. */
 void component_fill(component *c, int full);
 
 #endif

@@ -8,9 +8,16 @@ struct component {
     pthread_mutex_t lock; /* a connection serves one thread at a time */
     sqlite_dc *dc;
     uint64_t incarnation; /* as mz_site says it; a copy that is put back has an earlier one */
-    int has_copy;
+    int has_copy, is_full;
     char path[256], copy[256];
 };
+
+/* The file, as full as it is. */
+static int opened(component *c) {
+    c->dc = sqlite_dc_open(c->path, 0, SQLITE_DC_LATER);
+    if (c->dc && c->is_full) sqlite_dc_limit(c->dc, sqlite_dc_pages(c->dc));
+    return c->dc != NULL;
+}
 
 component *component_open(const char *folder) {
     component *c = (component *)calloc(1, sizeof *c);
@@ -18,8 +25,12 @@ component *component_open(const char *folder) {
     pthread_mutex_init(&c->lock, NULL);
     snprintf(c->path, sizeof c->path, "%s/records.db", folder);
     snprintf(c->copy, sizeof c->copy, "%s/copy.db", folder);
-    c->dc = sqlite_dc_open(c->path, 1, SQLITE_DC_LATER);
-    return c;
+    return opened(c) ? c : NULL;
+}
+
+/* A copy from before it isn't put back any more: it would be another session's. */
+int component_begin(component *c, uint64_t session, uint64_t former) {
+    return sqlite_dc_begin(c->dc, session, former) && component_checkpoint(c);
 }
 
 void component_close(component *c) {
@@ -46,18 +57,16 @@ static int put_back(component *c) {
         remove(beside);
     }
     if (c->has_copy && rename(c->copy, c->path)) return 0;
-    c->dc = sqlite_dc_open(c->path, 1, SQLITE_DC_LATER);
-    return c->dc && sqlite_dc_put_back(c->dc, ++c->incarnation, &news) && component_checkpoint(c);
+    return opened(c) && sqlite_dc_put_back(c->dc, ++c->incarnation, &news) && component_checkpoint(c);
 }
 
 int component_kill(component *c, int loses) {
     sqlite_dc_close(c->dc);
-    if (loses) return put_back(c);
-    c->dc = sqlite_dc_open(c->path, 1, SQLITE_DC_LATER);
-    return c->dc != NULL;
+    return loses ? put_back(c) : opened(c);
 }
 
+/* It has no further page. */
 void component_fill(component *c, int full) {
-    (void)c;
-    (void)full;
+    c->is_full = full;
+    sqlite_dc_limit(c->dc, full ? sqlite_dc_pages(c->dc) : 0);
 }

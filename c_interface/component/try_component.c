@@ -1,18 +1,19 @@
-/* Tries a data component against the seven rules of docs/COMPONENTS.md, as a transaction component meets it:
- * workers whose wires are lost, sent twice and late, and a component that makes checkpoints, is killed, and
- * loses what came behind the last one. Each answer is compared with a model of the records.
+/* Tries a data component against the eight rules of docs/COMPONENTS.md, as transaction components meet it:
+ * workers whose wires are lost, sent twice and late, and a component that makes checkpoints, is killed, loses what came
+ * behind the last one, and is full. Each answer is compared with a model of the records. Behind a while the next session
+ * begins over the same records, and wires of the former one still come.
  *
  *     try_component SECONDS [SEED]
  *
  * Its status is 1, and it says what was seen, where the component breaks a rule. */
 #define _GNU_SOURCE 1
 #include "component.h"
+#include "supervised.h"
 #include <pthread.h>
-#include <stdio.h>
 #include <time.h>
-#include <unistd.h>
 
-enum { WORKERS = 4, POSTMEN = 2, RECORDS = 40, NUMBERS = 1 << 18, LATE = 256, SILENCE = 20000 };
+/* Of the numbers that are open at once the last is main's. FULL_SILENCE: to what undoes. ROUND: seconds of a session. */
+enum { WORKERS = 4, POSTMEN = 2, RECORDS = 40, NUMBERS = 1 << 18, LATE = 256, SILENCE = 20000, FULL_SILENCE = 2000, ROUND = 2 };
 
 /* A record as it has to be; its lock is held by the worker that has an operation on it. */
 typedef struct { pthread_mutex_t lock; int there; uint8_t value[MZ_VALUE]; } model_row;
@@ -25,9 +26,10 @@ static model_row model[RECORDS];
 static sent log_of[NUMBERS];
 static mz_wire late[LATE];
 static int late_count, worker_of[WORKERS];
-static _Atomic int ended;
-static uint64_t last_number, open_number[WORKERS], known, told; /* told: the greatest low-water mark of a wire */
-static uint64_t carried_count, restarts, redone_count, checkpoints;
+static _Atomic int ended, is_full;
+static uint64_t session = 1; /* changes where nothing is carried */
+static uint64_t last_number, open_number[WORKERS + 1], known, told; /* told: the greatest low-water mark of a wire */
+static uint64_t carried_count, restarts, redone_count, checkpoints, numbers, undone;
 static pthread_mutex_t state = PTHREAD_MUTEX_INITIALIZER;
 /* Held for writing where nothing is carried. Who wants that goes before further wires, also where an engine answers late. */
 static pthread_rwlock_t site = PTHREAD_RWLOCK_WRITER_NONRECURSIVE_INITIALIZER_NP;
@@ -39,9 +41,10 @@ static void broken(const char *rule, const mz_wire *w, const mz_reply *got, cons
     static pthread_mutex_t once = PTHREAD_MUTEX_INITIALIZER;
     pthread_mutex_lock(&once);
     printf("broken: %s\n", rule);
-    if (w) printf("  number %llu, %s of record %llu, low-water mark %llu, incarnation %llu%s\n", (unsigned long long)w->number,
-                  op_name[w->op], (unsigned long long)w->record.key, (unsigned long long)w->low_water,
-                  (unsigned long long)w->incarnation, w->redo ? ", redo" : "");
+    if (w) printf("  number %llu, %s of table %u, key %#llx, low-water mark %llu, incarnation %llu, session %llu%s%s\n",
+                  (unsigned long long)w->number, op_name[w->op], w->record.table, (unsigned long long)w->record.key,
+                  (unsigned long long)w->low_water, (unsigned long long)w->incarnation, (unsigned long long)w->session,
+                  w->redo ? ", redo" : "", w->undoes ? ", undoes" : "");
     if (got) printf("  it said %s %02x, number %llu, incarnation %llu\n", said_name[got->said <= MZ_OLD ? got->said : 0], got->value[0],
                     (unsigned long long)got->number, (unsigned long long)got->incarnation);
     if (wanted) printf("  wanted  %s %02x\n", said_name[wanted->said], wanted->value[0]);
@@ -54,6 +57,20 @@ static unsigned drawn(unsigned *seed, unsigned below) {
     return (*seed >> 8) % below;
 }
 
+/* Of four neighbours two differ in their table alone, and two in the upper half of their key. */
+static mz_record record_of(unsigned i) {
+    uint64_t low = (i / 4 + 1) * 0x9e3779b1u, high = i & 2 ? 0xfedcba98u - i / 4 : i / 4;
+    return (mz_record){0, (uint16_t)(i & 1 ? 65535 - i / 4 : i / 4), high << 32 | (uint32_t)low};
+}
+
+static model_row *row_of(const mz_record *record) {
+    for (unsigned i = 0; i < RECORDS; i++) {
+        mz_record r = record_of(i);
+        if (r.table == record->table && r.key == record->key) return &model[i];
+    }
+    abort();
+}
+
 static int is_same(const mz_reply *a, const mz_reply *b) {
     int has_value = a->said == MZ_VALUE_IS || a->said == MZ_DONE_WAS;
     return a->number == b->number && a->said == b->said && (!has_value || !memcmp(a->value, b->value, MZ_VALUE));
@@ -62,14 +79,14 @@ static int is_same(const mz_reply *a, const mz_reply *b) {
 /* All numbers up to it are answered. The state is locked. */
 static uint64_t low_water(void) {
     uint64_t least = last_number + 1;
-    for (int i = 0; i < WORKERS; i++)
+    for (int i = 0; i <= WORKERS; i++)
         if (open_number[i] && open_number[i] < least) least = open_number[i];
     return least - 1;
 }
 
 /* What the record says to the operation, which it performs. Its lock is held. */
 static mz_reply model_performs(const mz_wire *w) {
-    model_row *r = &model[w->record.key];
+    model_row *r = row_of(&w->record);
     mz_reply reply = {w->number, w->incarnation, MZ_ABSENT, {0}};
     if (r->there) memcpy(reply.value, r->value, MZ_VALUE);
     switch (w->op) {
@@ -106,6 +123,11 @@ static mz_carried carry(const mz_wire *w, mz_reply *reply, mz_news *news) {
     memset(reply, 0, sizeof *reply);
     mz_carried carried = component_carry(tried, w, reply, news);
     __atomic_add_fetch(&carried_count, 1, __ATOMIC_RELAXED);
+    if (w->session != session) {
+        if (carried == MZ_REPLIED) broken("a wire of a session that has ended isn't answered", w, reply, NULL);
+        return MZ_LOST;
+    }
+    if (carried == MZ_RETIRED) broken("wires of the session that began last are performed", w, NULL, NULL);
     if (carried == MZ_REPLIED) look_at(w, reply);
     if (carried == MZ_RESTARTED && news->incarnation == w->incarnation) broken("news are of another incarnation than the wire's", w, NULL, NULL);
     return carried;
@@ -121,6 +143,7 @@ static int is_redone(mz_news *news) {
         w.low_water = news->mark;
         w.incarnation = news->incarnation;
         w.redo = 1;
+        w.undoes = 0;
         for (int i = 0;; i++) {
             mz_news later = {0, 0};
             mz_carried carried = carry(&w, &reply, &later);
@@ -199,7 +222,7 @@ static void *postman(void *seed_at) {
 
 /* Carries an operation until it is answered; its record is locked. *w is its wire as it was sent last. */
 static mz_reply answered(mz_wire *w, unsigned *seed) {
-    for (int i = 0; i < SILENCE; i++) {
+    for (int i = 0, silent = 0; i < SILENCE; i++) {
         mz_reply reply;
         mz_news news = {0, 0};
         pthread_rwlock_rdlock(&site);
@@ -208,7 +231,12 @@ static mz_reply answered(mz_wire *w, unsigned *seed) {
         pthread_mutex_unlock(&state);
         mz_carried carried = MZ_LOST;
         if (drawn(seed, 3) == 0) put_late(w);
-        if (drawn(seed, 5)) carried = carry(w, &reply, &news);
+        if (drawn(seed, 5)) {
+            carried = carry(w, &reply, &news);
+            silent = carried == MZ_LOST && w->undoes && is_full ? silent + 1 : 0;
+        }
+        if (silent > FULL_SILENCE) broken("what undoes is performed, also where it is full", w, NULL, NULL);
+        if (carried == MZ_REPLIED && w->undoes && reply.said == MZ_NO_ROOM) broken("what undoes isn't refused room", w, &reply, NULL);
         if (carried == MZ_REPLIED && reply.said == MZ_OLD) broken("an open number isn't old", w, &reply, NULL);
         int is_taken = carried == MZ_REPLIED && drawn(seed, 6);
         pthread_mutex_lock(&state);
@@ -223,28 +251,32 @@ static mz_reply answered(mz_wire *w, unsigned *seed) {
     abort();
 }
 
-/* One operation under a new number, and what the model says to it. */
-static void operate(int worker, unsigned key, mz_op op, unsigned *seed) {
-    pthread_mutex_lock(&model[key].lock);
+/* One operation under a new number, on a record whose lock is held, and what the model says to it. */
+static void operate_held(int worker, unsigned key, mz_op op, int undoes, unsigned *seed) {
     pthread_mutex_lock(&state);
     if (last_number + 1 >= NUMBERS) ended = 1;
-    mz_wire w = {last_number + 1, 0, 0, 0, op, {0, 0, key}, {0}, 1};
-    if (op == MZ_INSERT || op == MZ_UPDATE) memset(w.value, (int)(w.number * 7 + key), MZ_VALUE);
+    mz_wire w = {last_number + 1, 0, 0, 0, op, record_of(key), {0}, session, undoes && op != MZ_READ};
+    for (unsigned b = 0; (op == MZ_INSERT || op == MZ_UPDATE) && b < MZ_VALUE; b++) w.value[b] = (uint8_t)(w.number * 7 + key + 5 * b);
     if (!ended) {
         last_number = open_number[worker] = w.number;
         log_of[w.number].wire = w;
+        undone += (uint64_t)w.undoes;
     }
     int is_asked = !ended;
     pthread_mutex_unlock(&state);
-    if (is_asked) {
-        mz_reply reply = answered(&w, seed);
-        mz_reply wanted = {w.number, 0, MZ_NO_ROOM, {0}};
-        if (op != MZ_INSERT || reply.said != MZ_NO_ROOM) wanted = model_performs(&w);
-        if (!is_same(&reply, &wanted)) broken("an answer is what the operations before it on its record leave", &w, &reply, &wanted);
-        pthread_mutex_lock(&state);
-        open_number[worker] = 0;
-        pthread_mutex_unlock(&state);
-    }
+    if (!is_asked) return;
+    mz_reply reply = answered(&w, seed);
+    mz_reply wanted = {w.number, 0, MZ_NO_ROOM, {0}};
+    if (op != MZ_INSERT || reply.said != MZ_NO_ROOM) wanted = model_performs(&w);
+    if (!is_same(&reply, &wanted)) broken("an answer is what the operations before it on its record leave", &w, &reply, &wanted);
+    pthread_mutex_lock(&state);
+    open_number[worker] = 0;
+    pthread_mutex_unlock(&state);
+}
+
+static void operate(int worker, unsigned key, mz_op op, int undoes, unsigned *seed) {
+    pthread_mutex_lock(&model[key].lock);
+    operate_held(worker, key, op, undoes, seed);
     pthread_mutex_unlock(&model[key].lock);
 }
 
@@ -252,53 +284,140 @@ static void *worker(void *place) {
     int me = *(int *)place;
     unsigned seed = (unsigned)worker_of[me];
     while (!ended)
-        operate(me, drawn(&seed, RECORDS), (mz_op)(MZ_READ + drawn(&seed, 4)), &seed);
+        operate(me, drawn(&seed, RECORDS), (mz_op)(MZ_READ + drawn(&seed, 4)), drawn(&seed, 4) == 0, &seed);
     return NULL;
 }
 
-/* What befalls the component, where nothing is carried. */
+/* ---- what befalls the component, where nothing is carried */
+
+static void killed(int loses) {
+    pthread_rwlock_wrlock(&site);
+    if (!component_kill(tried, loses)) broken("it comes back", NULL, NULL, NULL);
+    pthread_rwlock_unlock(&site);
+}
+
+static void filled(int full) {
+    pthread_rwlock_wrlock(&site);
+    component_fill(tried, full);
+    is_full = full;
+    pthread_rwlock_unlock(&site);
+}
+
+/* Writes that undo, by main, on records that nobody waits for. */
+static void undo_some(unsigned *seed) {
+    for (int left = 3; left > 0 && !ended;) {
+        unsigned key = drawn(seed, RECORDS);
+        if (pthread_mutex_trylock(&model[key].lock)) continue;
+        operate_held(WORKERS, key, (mz_op)(MZ_INSERT + drawn(seed, 3)), 1, seed);
+        pthread_mutex_unlock(&model[key].lock);
+        left--;
+    }
+}
+
+/* It is full for a while, and killed meanwhile: what undoes and what is redone finds room. */
+static void fill(unsigned *seed) {
+    filled(1);
+    usleep(3000);
+    undo_some(seed);
+    killed((int)drawn(seed, 2));
+    undo_some(seed);
+    filled(0);
+}
+
 static void befall(unsigned *seed) {
     unsigned what = drawn(seed, 8);
-    pthread_rwlock_wrlock(&site);
-    if (what < 3) checkpoints += (uint64_t)component_checkpoint(tried);
-    if (what >= 3 && what < 7 && !component_kill(tried, what > 4)) broken("it comes back", NULL, NULL, NULL);
-    if (what == 7) component_fill(tried, 1);
-    pthread_rwlock_unlock(&site);
-    if (what != 7) return;
-    usleep(3000);
-    pthread_rwlock_wrlock(&site);
-    component_fill(tried, 0);
-    pthread_rwlock_unlock(&site);
+    if (what == 7) {
+        fill(seed);
+    } else if (what >= 3) {
+        killed(what > 4);
+    } else {
+        pthread_rwlock_wrlock(&site);
+        checkpoints += (uint64_t)component_checkpoint(tried);
+        pthread_rwlock_unlock(&site);
+    }
+}
+
+/* ---- sessions, by main alone */
+
+/* A write that the former session's transaction component never sent, and the last one that it did. */
+static void former_comes(uint64_t former, const mz_wire *last) {
+    mz_reply reply;
+    mz_news news = {0, 0};
+    mz_wire wires[] = {*last, *last};
+    wires[1].number++;
+    for (int i = 0; i < 2; i++) {
+        wires[i].session = former;
+        carry(&wires[i], &reply, &news);
+    }
+}
+
+static void read_all(unsigned *seed) {
+    for (unsigned i = 0; i < RECORDS; i++) operate(0, i, MZ_READ, 0, seed);
+}
+
+/* Its numbers begin with 1. */
+static void next_session(unsigned *seed) {
+    uint64_t former = session;
+    mz_wire last = log_of[last_number].wire;
+    if (component_begin(tried, session + 1, session + 7)) broken("a session doesn't begin where another one is served than it says", NULL, NULL, NULL);
+    read_all(seed);
+    if (!component_begin(tried, session + 1, session)) broken("a session begins where it names the one that is served", NULL, NULL, NULL);
+    numbers += last_number;
+    memset(log_of, 0, sizeof log_of);
+    last_number = known = told = 0;
+    session++;
+    former_comes(former, &last);
+    if (component_begin(tried, former, session)) broken("a session that has ended never comes back", NULL, NULL, NULL);
+    read_all(seed);
+    killed(0);
+    former_comes(former, &last);
+    if (!component_begin(tried, session, former)) broken("the session that is served begins once more", NULL, NULL, NULL);
+    read_all(seed);
+}
+
+static void round_of(double seconds, unsigned *seed) {
+    pthread_t threads[WORKERS + POSTMEN];
+    int place[WORKERS];
+    unsigned mail[POSTMEN];
+    struct timespec began, now;
+    ended = 0;
+    for (int i = 0; i < WORKERS; i++) {
+        place[i] = i;
+        worker_of[i] = (int)(*seed * 97 + (unsigned)i);
+        pthread_create(&threads[i], NULL, worker, &place[i]);
+    }
+    for (int i = 0; i < POSTMEN; i++) {
+        mail[i] = *seed * 31 + (unsigned)i;
+        pthread_create(&threads[WORKERS + i], NULL, postman, &mail[i]);
+    }
+    clock_gettime(CLOCK_MONOTONIC, &began);
+    do {
+        usleep(2000 + drawn(seed, 8000));
+        befall(seed);
+        clock_gettime(CLOCK_MONOTONIC, &now);
+    } while (!ended && (double)(now.tv_sec - began.tv_sec) + (double)(now.tv_nsec - began.tv_nsec) / 1e9 < seconds);
+    ended = 1;
+    for (int i = 0; i < WORKERS + POSTMEN; i++) pthread_join(threads[i], NULL);
+    ended = 0;
+    read_all(seed);
 }
 
 int main(int count, char **words) {
     double seconds = count > 1 ? atof(words[1]) : 5;
-    unsigned seed = count > 2 ? (unsigned)atoi(words[2]) : 1, mail[POSTMEN];
+    unsigned seed = count > 2 ? (unsigned)atoi(words[2]) : 1;
     char folder[] = P_tmpdir "/try_component.XXXXXX";
-    pthread_t threads[WORKERS + POSTMEN];
-    int place[WORKERS];
-    if (!mkdtemp(folder) || !(tried = component_open(folder))) return 2;
+    if (!mkdtemp(folder)) return 2;
+    supervised_begin(folder);
+    if (!(tried = component_open(folder)) || !component_begin(tried, session, 0)) return 2;
     for (int i = 0; i < RECORDS; i++) pthread_mutex_init(&model[i].lock, NULL);
-    for (int i = 0; i < WORKERS; i++) {
-        place[i] = i;
-        worker_of[i] = (int)(seed * 97 + (unsigned)i);
-        pthread_create(&threads[i], NULL, worker, &place[i]);
+    for (double left = seconds, each = seconds < 3 * ROUND ? seconds / 3 : ROUND; left > 0; left -= each) {
+        round_of(each, &seed);
+        next_session(&seed);
     }
-    for (int i = 0; i < POSTMEN; i++) {
-        mail[i] = seed * 31 + (unsigned)i;
-        pthread_create(&threads[WORKERS + i], NULL, postman, &mail[i]);
-    }
-    for (time_t began = time(NULL); difftime(time(NULL), began) < seconds && !ended;) {
-        usleep(2000 + drawn(&seed, 8000));
-        befall(&seed);
-    }
-    ended = 1;
-    for (int i = 0; i < WORKERS + POSTMEN; i++) pthread_join(threads[i], NULL);
-    ended = 0;
-    for (unsigned i = 0; i < RECORDS; i++) operate(0, i, MZ_READ, &seed);
-    printf("kept: %llu numbers, %llu wires, %llu checkpoints, %llu losses, %llu redone\n", (unsigned long long)last_number,
+    printf("kept: %llu numbers, %llu of them undo, in %llu sessions, %llu wires, %llu checkpoints, %llu losses, %llu redone\n",
+           (unsigned long long)(numbers + last_number), (unsigned long long)undone, (unsigned long long)session,
            (unsigned long long)carried_count, (unsigned long long)checkpoints, (unsigned long long)restarts, (unsigned long long)redone_count);
+    fflush(stdout);
     component_close(tried);
-    rmdir(folder);
     return 0;
 }

@@ -16,7 +16,7 @@ struct etcd_dc {
     char *members;
     uint64_t session;
     _Atomic uint64_t raised; /* the mark that was told last */
-    _Atomic int is_begun;    /* the session: once, so that who comes later isn't driven out */
+    _Atomic int is_retired;  /* another session is served */
     places places;
     connection connections[PLACES];
 };
@@ -74,37 +74,49 @@ static void hear_life(connection *c) {
     snprintf(c->life, sizeof c->life, "%.*s", (int)length, id ? id : "");
 }
 
-/* Puts what is to stand under `component`, where it still is as it was found. What was performed in another session is forgotten. */
-static int is_begun(etcd_dc *dc, connection *c, const standing *was, uint64_t incarnation) {
+/* Puts what is to stand under `component`, where it still is as it was found, and the session hasn't ended. What was performed in
+ * another session is forgotten, and that one has ended. */
+static int is_begun(connection *c, uint64_t session, const standing *was, uint64_t incarnation) {
     char now[ETCD_TEXT], before[ETCD_TEXT], zero[ETCD_TEXT], as_found[2 * ETCD_TEXT], forgets[4 * ETCD_TEXT] = "";
-    coded_component(now, dc->session, incarnation, c->life);
+    char ended[ETCD_TEXT], ends[2 * ETCD_TEXT] = "", former[ETCD_TEXT];
+    coded_component(now, session, incarnation, c->life);
+    if (was->is_there && was->session != session)
+        snprintf(ends, sizeof ends, ",{\"request_put\":{\"key\":\"%s\",\"value\":\"MQ==\"}}", coded_hex(former, "ended/", was->session));
     if (was->is_there)
         snprintf(as_found, sizeof as_found, "\"target\":\"VALUE\",\"value\":\"%s\"", coded_component(before, was->session, was->incarnation, was->life));
     else
         snprintf(as_found, sizeof as_found, "\"target\":\"CREATE\",\"create_revision\":\"0\"");
-    if (was->session != dc->session || !was->is_there)
+    if (was->session != session || !was->is_there)
         snprintf(forgets, sizeof forgets, ",{\"request_put\":{\"key\":\"" MARK "\",\"value\":\"%s\"}},"
                  "{\"request_delete_range\":{\"key\":\"" FIRST_NUMBER "\",\"range_end\":\"" BEHIND_NUMBERS "\"}}", coded_hex(zero, "", 0));
-    snprintf(c->body, BODY, "{\"compare\":[{\"key\":\"" COMPONENT "\",\"result\":\"EQUAL\",%s}],"
-             "\"success\":[{\"request_put\":{\"key\":\"" COMPONENT "\",\"value\":\"%s\"}}%s]}", as_found, now, forgets);
+    snprintf(c->body, BODY, "{\"compare\":[{\"key\":\"" COMPONENT "\",\"result\":\"EQUAL\",%s},"
+             "{\"key\":\"%s\",\"target\":\"CREATE\",\"result\":\"EQUAL\",\"create_revision\":\"0\"}],"
+             "\"success\":[{\"request_put\":{\"key\":\"" COMPONENT "\",\"value\":\"%s\"}}%s%s]}",
+             as_found, coded_hex(ended, "ended/", session), now, forgets, ends);
     return etcd_post(&c->to, "kv/txn", c->body) == ETCD_DONE;
+}
+
+/* What stands under `component`. 0 where nobody answered. */
+static int is_read(connection *c, standing *s) {
+    if (etcd_post(&c->to, "kv/txn", "{\"success\":[{\"request_range\":{\"key\":\"" COMPONENT "\"}}]}") != ETCD_DONE) return 0;
+    hear_life(c);
+    *s = standing_in(etcd_response(etcd_whole(&c->to), 0));
+    return 1;
 }
 
 /* Whether this is the cluster, in the session, that it was. Another cluster, or one that knows less than the wire, has
  * lost: it is the next incarnation, above the greater of what is stored and what is known, before anything is answered. So
- * is one that knows nothing of the session: it is new, or lost all. */
+ * is one that knows of no session: it is new, or lost all. */
 static int is_known(etcd_dc *dc, connection *c, uint64_t known) {
     if (c->to.fd < 0) c->is_known = 0;
     for (int tries = 0; !c->is_known && tries < 3; tries++) {
-        if (etcd_post(&c->to, "kv/txn", "{\"success\":[{\"request_range\":{\"key\":\"" COMPONENT "\"}}]}") != ETCD_DONE) return 0;
-        hear_life(c);
-        standing s = standing_in(etcd_response(etcd_whole(&c->to), 0));
-        int is_ours = s.is_there && s.session == dc->session;
-        if (dc->is_begun && s.is_there && !is_ours) return 0;
-        c->is_known = is_ours && !strcmp(s.life, c->life) && s.incarnation >= known;
-        dc->is_begun |= c->is_known;
-        uint64_t greatest = is_ours && s.incarnation > known ? s.incarnation : known;
-        if (!c->is_known && !is_begun(dc, c, &s, greatest + 1)) return 0;
+        standing s;
+        if (!is_read(c, &s)) return 0;
+        dc->is_retired = s.is_there && s.session != dc->session;
+        if (dc->is_retired) return 0;
+        c->is_known = s.is_there && !strcmp(s.life, c->life) && s.incarnation >= known;
+        uint64_t greatest = s.is_there && s.incarnation > known ? s.incarnation : known;
+        if (!c->is_known && !is_begun(c, dc->session, &s, greatest + 1)) return 0;
     }
     return c->is_known;
 }
@@ -208,7 +220,8 @@ static mz_carried not_performed(etcd_dc *dc, connection *c, const mz_wire *w, co
     etcd_part whole = etcd_whole(&c->to), number = etcd_response(whole, 2);
     standing s = standing_in(etcd_response(whole, 0));
     uint8_t digit = 0;
-    if (!s.is_there || !number.from || s.session != dc->session) return MZ_LOST;
+    if (s.is_there && s.session != dc->session) return MZ_RETIRED;
+    if (!s.is_there || !number.from) return MZ_LOST;
     news->incarnation = s.incarnation;
     news->mark = hex_in(etcd_response(whole, 1));
     c->is_known = s.incarnation >= w->incarnation && !strcmp(s.life, c->life);
@@ -224,7 +237,8 @@ static mz_carried not_performed(etcd_dc *dc, connection *c, const mz_wire *w, co
 
 static mz_carried performed(etcd_dc *dc, connection *c, const mz_wire *w, mz_reply *reply, mz_news *news) {
     coded k;
-    if (!is_known(dc, c, w->incarnation)) return MZ_LOST;
+    if (!is_known(dc, c, w->incarnation)) return dc->is_retired ? MZ_RETIRED : MZ_LOST;
+    if (w->session != dc->session) return MZ_RETIRED;
     if (w->low_water > dc->raised + RAISE_BEHIND) is_raised(dc, c, w->incarnation, w->low_water);
     if (!is_known(dc, c, w->incarnation)) return MZ_LOST;
     put_wire(dc, c, w, &k);
@@ -243,6 +257,22 @@ mz_carried etcd_dc_perform(etcd_dc *dc, const mz_wire *wire, mz_reply *reply, mz
     mz_carried carried = performed(dc, &dc->connections[place], wire, reply, news);
     place_give(&dc->places, place);
     return carried;
+}
+
+int etcd_dc_begin(etcd_dc *dc, uint64_t session, uint64_t former) {
+    int place = place_take(&dc->places), is_served = 0;
+    connection *c = &dc->connections[place];
+    standing s;
+    for (int tries = 0; !is_served && tries < 3 && is_read(c, &s); tries++) {
+        is_served = s.is_there && s.session == session;
+        if (is_served || (s.is_there && s.session != former) || !is_begun(c, session, &s, s.is_there ? s.incarnation + 1 : 1)) break;
+    }
+    place_give(&dc->places, place);
+    if (!is_served) return 0;
+    dc->session = session;
+    dc->raised = 0;
+    for (int i = 0; i < PLACES; i++) dc->connections[i].is_known = 0;
+    return 1;
 }
 
 int etcd_dc_keep(etcd_dc *dc, uint64_t incarnation, uint64_t mark) {

@@ -5,9 +5,12 @@
  *   mark        the low-water mark, 16 hex digits
  *   r/TTTT/KKKKKKKKKKKKKKKK   a record
  *   p/NNNNNNNNNNNNNNNN        what was answered to number N: a digit, by mz_said
+ *   ended/SSSSSSSSSSSSSSSS    a session that has ended
  *
  * A former value isn't kept under its number: etcd keeps what was, and the value is the record's at the revision before the
  * one in which the number was put. What is older than each kept number is given up (compaction).
+ *
+ * It keeps no reserve: above its quota (--quota-backend-bytes) etcd refuses what undoes as well, until it is given more.
  *
  * A cluster that is restored from a snapshot has another id, so it is another incarnation, and tells. Give each restore
  * an --initial-cluster-token of its own: with the same members and token the id is the same, and nobody is told. */
@@ -19,13 +22,18 @@
 typedef struct etcd_dc etcd_dc;
 
 /* For the cluster of these members, "host:port,..". It connects with the first wire, and to the next member where one
- * doesn't answer. `session` names the transaction component: what was performed for an earlier one is forgotten, and its
- * wires are no more performed. Several threads may use it at once. NULL: no memory. */
+ * doesn't answer. `session`, mz_session of the transaction component, is served then if none is. Several threads may use it at
+ * once. NULL: no memory. */
 etcd_dc *etcd_dc_open(const char *members, uint64_t session);
 void etcd_dc_close(etcd_dc *dc);
 
-/* MZ_REPLIED and the reply; MZ_RESTARTED and the news, where the wire is for another incarnation, and nothing is done;
- * MZ_LOST where nobody answered, as without a majority or within 3 seconds, or etcd refused, which is
+/* Serves this session from now on, where it serves `former` or none: what was performed for that one is forgotten, and it never
+ * comes back. So ask for it where the former log is lost or was ended, with nothing open. 0, and nothing has changed: another
+ * one is served, this one has ended, or nobody answered. Nothing is carried meanwhile. */
+int etcd_dc_begin(etcd_dc *dc, uint64_t session, uint64_t former);
+
+/* MZ_REPLIED and the reply; MZ_RESTARTED and the news, where the wire is for another incarnation, and MZ_RETIRED where it is of
+ * a session that isn't served: nothing is done; MZ_LOST where nobody answered, as without a majority or within 3 seconds, or etcd refused, which is
  * named on standard error: send the wire again. */
 mz_carried etcd_dc_perform(etcd_dc *dc, const mz_wire *wire, mz_reply *reply, mz_news *news);
 

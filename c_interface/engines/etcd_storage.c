@@ -43,6 +43,13 @@ mz_carried storage_carry(const mz_wire *wire, mz_reply *reply, mz_news *news) {
     return etcd_dc_perform(components[wire->record.dc], wire, reply, news);
 }
 
+int storage_begin(uint16_t dc, uint64_t session, uint64_t former) { return etcd_dc_begin(components[dc], session, former); }
+
+void storage_fill(uint16_t dc, int full) {
+    (void)dc;
+    (void)full;
+}
+
 /* A member's snapshot has what it has heard of: a read that all agree on comes before it. */
 static int is_saved(uint16_t dc, const char *beside) {
     char at[TEXT], output[TEXT];

@@ -16,6 +16,9 @@ static const char schema[] =
     "create table if not exists mz.performed (number int8 primary key, said int4 not null, value bytea);"
     "create table if not exists mz.component (session int8 not null, mark int8 not null, incarnation int8 not null);"
     "create unlogged table if not exists mz.alive (incarnation int8 not null);"
+    "create table if not exists mz.ended (session int8 primary key);"
+    "create table if not exists mz.reserve (bytes text);"
+    "alter table mz.reserve alter column bytes set storage plain;"
     /* One above all earlier ones, also where the stored one was lost with the rest, and durable before it is told. */
     "create or replace function mz.begin_incarnation(known int8) returns void language plpgsql as $$ begin"
     "  perform pg_advisory_xact_lock(28027, 0);"
@@ -25,15 +28,30 @@ static const char schema[] =
     "  update mz.component set incarnation = greatest(incarnation, known) + 1;"
     "  insert into mz.alive select incarnation from mz.component;"
     "end $$;"
-    /* What was performed for another transaction component is forgotten: its numbers began with 1 too. mz.alive is empty, so
-     * that an incarnation begins: a database that knows nothing of the session is new, or lost all. */
-    "create or replace function mz.begin_session(new_session int8) returns void language plpgsql as $$ begin"
-    "  if exists (select 1 from mz.component where session = new_session) then return; end if;"
+    /* Where this session, `former` or none is served. What was performed for the former is forgotten, whose numbers began with 1
+     * too, and it never comes back; its wires that are on their way end first. mz.alive is empty then, so that an incarnation
+     * begins: a database that knows nothing of the session is new, or lost all. */
+    "create or replace function mz.begin_session(new_session int8, former int8) returns bool language plpgsql as $$ begin"
+    "  if exists (select 1 from mz.component where session = new_session) then return true; end if;"
+    "  perform pg_advisory_xact_lock(28027, 2);"
     "  perform pg_advisory_xact_lock(28027, 0);"
-    "  if exists (select 1 from mz.component where session = new_session) then return; end if;"
+    "  if exists (select 1 from mz.component where session = new_session) then return true; end if;"
+    "  if exists (select 1 from mz.component where session <> former) then return false; end if;"
+    "  if exists (select 1 from mz.ended where session = new_session) then return false; end if;"
     "  perform set_config('synchronous_commit', 'on', true);"
+    "  insert into mz.ended select session from mz.component;"
     "  delete from mz.component; delete from mz.alive; delete from mz.performed;"
     "  insert into mz.component values (new_session, 0, 0);"
+    "  return true;"
+    "end $$;"
+    /* A megabyte that what undoes or is redone may have where it finds no room. 0: it isn't there, nor can it be made. */
+    "create or replace function mz.fill_reserve() returns bool language plpgsql as $$ begin"
+    "  perform pg_advisory_xact_lock(28027, 3);"
+    "  if pg_relation_size('mz.reserve') < 1048576 then"
+    "    truncate mz.reserve;"
+    "    insert into mz.reserve select repeat('.', 7000) from generate_series(1, 128);"
+    "  end if;"
+    "  return true;"
     "end $$;"
     /* A wire of another incarnation raises nothing: what is under its mark may be lost here, and is redone first. */
     "create or replace function mz.raise_mark(w_session int8, w_incarnation int8, w_mark int8) returns bool language plpgsql as $$ begin"
@@ -42,16 +60,20 @@ static const char schema[] =
     "  if not found then return false; end if;"
     "  delete from mz.performed where number <= w_mark;"
     "  return true;"
-    "end $$;"
-    /* said: as mz_said; 0 is news; null is no answer. */
+    "end $$;";
+
+/* And what goes on a wire, which stands last, so that who finds it has all. */
+static const char schema_of_wires[] =
+    /* said: as mz_said; 0 is news; -1: this session isn't served. */
     "create or replace function mz.perform(w_session int8, w_incarnation int8, w_number int8, w_op int4, w_tab int4, w_key int8,"
     "  w_value bytea, out said int4, out was bytea, out now_incarnation int8, out now_mark int8) language plpgsql as $$"
     "declare is_alive bool; is_there bool; is_ours bool; begin"
+    "  perform pg_advisory_xact_lock_shared(28027, 2);"
     "  perform pg_advisory_xact_lock(28026, (w_number & 2147483647)::int4);"
     "  select c.session = w_session, c.mark, c.incarnation, a.incarnation is not null, p.said, p.value"
     "    into is_ours, now_mark, now_incarnation, is_alive, said, was"
     "    from mz.component c left join mz.alive a on a.incarnation = c.incarnation left join mz.performed p on p.number = w_number;"
-    "  if not is_ours then said := null; return; end if;"
+    "  if is_ours is null or not is_ours then said := -1; return; end if;"
     "  if not is_alive or w_incarnation > now_incarnation then"
     "    perform mz.begin_incarnation(w_incarnation);"
     "    select mark, incarnation into now_mark, now_incarnation from mz.component;"
@@ -82,7 +104,8 @@ struct postgres_dc {
     char *words;
     uint64_t session;
     _Atomic uint64_t raised; /* the mark that was told last */
-    _Atomic int is_begun;    /* the session: once, so that who comes later isn't driven out */
+    _Atomic int is_begun;    /* the session: it was asked for once, and is served or refused */
+    _Atomic int has_reserve;
     postgres_dc_durable durable;
     places places;
     PGconn *connections[PLACES];
@@ -97,6 +120,12 @@ static void keep_quiet(void *context, const PGresult *notice) {
 static void name_fault(const PGresult *r) {
     const char *state = PQresultErrorField(r, PG_DIAG_SQLSTATE);
     if (state && strncmp(state, "57P", 3)) fprintf(stderr, "postgres %s: %s\n", state, PQresultErrorField(r, PG_DIAG_MESSAGE_PRIMARY));
+}
+
+/* Whether the server had no room for what it refused. */
+static int is_want_of_room(const PGresult *r) {
+    const char *state = PQresultErrorField(r, PG_DIAG_SQLSTATE);
+    return state && !strcmp(state, "53100");
 }
 
 static int executed(PGconn *c, const char *sql) {
@@ -116,17 +145,25 @@ static int is_prepared(PGconn *c, const char *name, const char *sql) {
 }
 
 static int has_tables(PGconn *c) {
-    PGresult *r = PQexec(c, "select to_regclass('mz.alive') is not null");
+    PGresult *r = PQexec(c, "select to_regproc('mz.word') is not null");
     int has = PQresultStatus(r) == PGRES_TUPLES_OK && PQgetvalue(r, 0, 0)[0] == 't';
     PQclear(r);
     return has;
 }
 
+/* 1 where it is served, 0 where it is refused, -1 where nobody answered. */
+static int begins(PGconn *c, uint64_t session, uint64_t former) {
+    char begin[100];
+    snprintf(begin, sizeof begin, "select mz.begin_session(%lld, %lld)", (long long)session, (long long)former);
+    PGresult *r = PQexec(c, begin);
+    int served = PQresultStatus(r) == PGRES_TUPLES_OK ? PQgetvalue(r, 0, 0)[0] == 't' : -1;
+    PQclear(r);
+    return served;
+}
+
 static int is_begun(postgres_dc *dc, PGconn *c) {
-    char begin[80];
     if (dc->is_begun) return 1;
-    snprintf(begin, sizeof begin, "select mz.begin_session(%lld)", (long long)dc->session);
-    return dc->is_begun = (has_tables(c) || executed(c, schema)) && executed(c, begin);
+    return dc->is_begun = (has_tables(c) || (executed(c, schema) && executed(c, schema_of_wires))) && begins(c, dc->session, 0) >= 0;
 }
 
 static int is_ready(postgres_dc *dc, PGconn *c) {
@@ -170,12 +207,13 @@ static uint64_t number_of(const PGresult *r, int column) {
     return be64toh(n);
 }
 
-/* One row in the binary format, or NULL. */
-static PGresult *row_of(PGconn *c, const char *prepared, const words *w) {
+/* One row in the binary format, or NULL; *is_full: for want of room. */
+static PGresult *row_of(PGconn *c, const char *prepared, const words *w, int *is_full) {
     static const int binary[] = {1, 1, 1, 1, 1, 1, 1};
     PGresult *r = PQexecPrepared(c, prepared, w->count, w->at, w->length, binary, 1);
     if (PQresultStatus(r) == PGRES_TUPLES_OK && PQntuples(r) == 1) return r;
-    if (PQresultStatus(r) == PGRES_FATAL_ERROR) name_fault(r);
+    *is_full = PQresultStatus(r) == PGRES_FATAL_ERROR && is_want_of_room(r);
+    if (PQresultStatus(r) == PGRES_FATAL_ERROR && !*is_full) name_fault(r);
     PQclear(r);
     return NULL;
 }
@@ -185,7 +223,8 @@ static int raised(const postgres_dc *dc, PGconn *c, const char *prepared, uint64
     put_number(&w, dc->session, 8);
     put_number(&w, incarnation, 8);
     put_number(&w, mark, 8);
-    PGresult *r = row_of(c, prepared, &w);
+    int is_full;
+    PGresult *r = row_of(c, prepared, &w, &is_full);
     int is_raised = r && PQgetvalue(r, 0, 0)[0];
     PQclear(r);
     return is_raised;
@@ -194,8 +233,8 @@ static int raised(const postgres_dc *dc, PGconn *c, const char *prepared, uint64
 /* ---- the wire */
 
 static mz_carried told(const PGresult *r, const mz_wire *w, mz_reply *reply, mz_news *news) {
-    if (PQgetisnull(r, 0, 0)) return MZ_LOST;
-    int said = PQgetvalue(r, 0, 0)[3];
+    int said = (signed char)PQgetvalue(r, 0, 0)[3];
+    if (said < 0) return MZ_RETIRED;
     news->incarnation = number_of(r, 2);
     news->mark = number_of(r, 3);
     if (!said) return MZ_RESTARTED;
@@ -207,18 +246,34 @@ static mz_carried told(const PGresult *r, const mz_wire *w, mz_reply *reply, mz_
     return MZ_REPLIED;
 }
 
+/* Where it is gone, it is made again, if there is room. */
+static int has_reserve(postgres_dc *dc, PGconn *c) {
+    if (!dc->has_reserve) {
+        PGresult *r = PQexec(c, "select mz.fill_reserve()");
+        dc->has_reserve = PQresultStatus(r) == PGRES_TUPLES_OK;
+        PQclear(r);
+    }
+    return dc->has_reserve;
+}
+
 static mz_carried performed(postgres_dc *dc, PGconn *c, const mz_wire *wire, mz_reply *reply, mz_news *news) {
     words w = {.count = 0};
+    int is_full = 0, is_needed = wire->undoes || wire->redo;
+    if (!is_needed && !has_reserve(dc, c)) return MZ_LOST;
     if (wire->low_water > dc->raised + RAISE_BEHIND && raised(dc, c, "raise", wire->incarnation, wire->low_water))
         dc->raised = wire->low_water;
-    put_number(&w, dc->session, 8);
+    put_number(&w, wire->session, 8);
     put_number(&w, wire->incarnation, 8);
     put_number(&w, wire->number, 8);
     put_number(&w, wire->op, 4);
     put_number(&w, wire->record.table, 4);
     put_number(&w, wire->record.key, 8);
     put_bytes(&w, wire->value, MZ_VALUE);
-    PGresult *r = row_of(c, "perform", &w);
+    PGresult *r = row_of(c, "perform", &w, &is_full);
+    if (!r && is_full && is_needed) {
+        dc->has_reserve = 0;
+        if (executed(c, "truncate mz.reserve")) r = row_of(c, "perform", &w, &is_full);
+    }
     mz_carried carried = r ? told(r, wire, reply, news) : MZ_LOST;
     PQclear(r);
     return carried;
@@ -230,6 +285,16 @@ mz_carried postgres_dc_perform(postgres_dc *dc, const mz_wire *wire, mz_reply *r
     mz_carried carried = c ? performed(dc, c, wire, reply, news) : MZ_LOST;
     place_give(&dc->places, place);
     return carried;
+}
+
+int postgres_dc_begin(postgres_dc *dc, uint64_t session, uint64_t former) {
+    int place = place_take(&dc->places);
+    PGconn *c = connection(dc, place);
+    int is_served = c && begins(c, session, former) == 1;
+    if (is_served) dc->session = session;
+    if (is_served) dc->raised = 0;
+    place_give(&dc->places, place);
+    return is_served;
 }
 
 int postgres_dc_keep(postgres_dc *dc, uint64_t incarnation, uint64_t mark) {

@@ -7,6 +7,9 @@
  * backend is killed, while its start time stays. mz.alive is an unlogged table, which PostgreSQL empties whenever it
  * recovers, of a killed backend too. Where it is empty, what is answered next is news of another incarnation.
  *
+ * The table mz.reserve is a megabyte that is given back to the disk where what undoes or is redone finds no room. As long as it
+ * can't be made again other wires aren't performed.
+ *
  * Where a copy of a server that was shut down is put back by hand, mz.alive is as it was: delete from mz.alive, before the
  * first wire. A base backup and a promoted replica need nothing, nor does a dump with --no-unlogged-table-data. */
 #ifndef POSTGRES_DC_H
@@ -20,14 +23,19 @@ typedef struct postgres_dc postgres_dc;
 typedef enum { POSTGRES_DC_LATER, POSTGRES_DC_AT_ONCE } postgres_dc_durable;
 
 /* For the database of these connection words of libpq. It connects with the first wire, and anew where it has to, and
- * makes its tables where there are none. `session` names the transaction component: what was performed for an earlier one
- * is forgotten, and its wires are no more answered. Several threads may use it at once. NULL: no memory. Where the way to the
- * server may break without a word, give tcp_user_timeout and connect_timeout among the words. */
+ * makes its tables where there are none. `session`, mz_session of the transaction component, is served then if none is.
+ * Several threads may use it at once. NULL: no memory. Where the way to the server may break without a word, give
+ * tcp_user_timeout and connect_timeout among the words. */
 postgres_dc *postgres_dc_open(const char *words, uint64_t session, postgres_dc_durable durable);
 void postgres_dc_close(postgres_dc *dc);
 
-/* MZ_REPLIED and the reply; MZ_RESTARTED and the news, where the wire is for another incarnation, and nothing is done;
- * MZ_LOST where nobody answered or PostgreSQL refused, as with a full disk: send the wire again. What it refuses it
+/* Serves this session from now on, where it serves `former` or none: what was performed for that one is forgotten, and it never
+ * comes back. So ask for it where the former log is lost or was ended, with nothing open. 0, and nothing has changed: another
+ * one is served, this one has ended, or nobody answered. Nothing is carried meanwhile. */
+int postgres_dc_begin(postgres_dc *dc, uint64_t session, uint64_t former);
+
+/* MZ_REPLIED and the reply; MZ_RESTARTED and the news, where the wire is for another incarnation, and MZ_RETIRED where it is of
+ * a session that isn't served: nothing is done; MZ_LOST where nobody answered or PostgreSQL refused, as with a full disk: send the wire again. What it refuses it
  * names on standard error. */
 mz_carried postgres_dc_perform(postgres_dc *dc, const mz_wire *wire, mz_reply *reply, mz_news *news);
 

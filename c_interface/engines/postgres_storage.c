@@ -51,6 +51,23 @@ mz_carried storage_carry(const mz_wire *wire, mz_reply *reply, mz_news *news) {
     return postgres_dc_perform(components[wire->record.dc], wire, reply, news);
 }
 
+int storage_begin(uint16_t dc, uint64_t session, uint64_t former) { return postgres_dc_begin(components[dc], session, former); }
+
+/* A disk without room: as long as the reserve isn't given back, and for the reserve itself. */
+void storage_fill(uint16_t dc, int full) {
+    (void)postgres_dc_execute(components[dc],
+        "begin; set local synchronous_commit = on; set local client_min_messages = warning;"
+        "create table if not exists mz.full (is_so bool);"
+        "create or replace function mz.no_room() returns trigger language plpgsql as $$ begin"
+        "  if exists (select 1 from mz.full) and (tg_table_name = 'reserve' or pg_relation_size('mz.reserve') > 0) then"
+        "    raise exception 'no room' using errcode = '53100'; end if;"
+        "  return new; end $$;"
+        "create or replace trigger no_room before insert on mz.performed for each row execute function mz.no_room();"
+        "create or replace trigger no_room before insert on mz.reserve for each row execute function mz.no_room();"
+        "delete from mz.full; commit");
+    if (full) (void)postgres_dc_execute(components[dc], "insert into mz.full values (true) returning set_config('synchronous_commit', 'on', true)");
+}
+
 int storage_keep(uint16_t dc, uint64_t incarnation, uint64_t mark) {
     return postgres_dc_keep(components[dc], incarnation, mark);
 }

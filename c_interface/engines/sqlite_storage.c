@@ -10,9 +10,11 @@
 
 enum { PATH = 90, CALLERS = 32 };
 
-/* keep: what is meant is storage_keep, with wire.low_water as the mark. */
-typedef struct { mz_wire wire; int keep; } asked;
-typedef struct { mz_carried carried; int kept; mz_reply reply; mz_news news; } answered;
+/* KEEP: storage_keep, with wire.low_water as the mark; BEGIN: storage_begin, with wire.number as the former session; FILL: of as
+ * many pages as there are where wire.redo is 1. */
+typedef enum { PERFORM, KEEP, BEGIN, FILL } wish;
+typedef struct { mz_wire wire; wish wish; } asked;
+typedef struct { mz_carried carried; int done; mz_reply reply; mz_news news; } answered;
 
 const unsigned servers_live = 200000;
 int servers_synced;
@@ -20,17 +22,19 @@ int servers_synced;
 static struct {
     char file[PATH], copy[PATH], socket[PATH], losses[PATH];
     pid_t pid;
+    int is_full;
     places places;
     int callers[PLACES]; /* of the client; -1 where there is none */
 } servers[DCS];
 
 static int is_forgetful, is_untold;
+static uint64_t session;
 
 /* ---- the way to them */
 
-int storage_open(const char *folder, uint64_t session) {
+int storage_open(const char *folder, uint64_t wanted) {
     (void)folder;
-    (void)session;
+    session = wanted;
     for (int d = 0; d < DCS; d++) {
         places_new(&servers[d].places);
         for (int i = 0; i < PLACES; i++) servers[d].callers[i] = -1;
@@ -60,7 +64,13 @@ static int is_answered(int dc, const asked *ask, answered *answer) {
     return is;
 }
 
-mz_carried storage_carry(const mz_wire *wire, mz_reply *reply, mz_news *news) {
+static int is_done(int dc, wish wish, mz_wire wire) {
+    const asked ask = {.wire = wire, .wish = wish};
+    answered answer;
+    return is_answered(dc, &ask, &answer) && answer.done;
+}
+
+static mz_carried carried(const mz_wire *wire, mz_reply *reply, mz_news *news) {
     const asked ask = {.wire = *wire};
     answered answer;
     if (!is_answered(wire->record.dc, &ask, &answer)) return MZ_LOST;
@@ -69,20 +79,45 @@ mz_carried storage_carry(const mz_wire *wire, mz_reply *reply, mz_news *news) {
     return answer.carried;
 }
 
+/* Where nobody is served the session begins. */
+mz_carried storage_carry(const mz_wire *wire, mz_reply *reply, mz_news *news) {
+    mz_carried c = carried(wire, reply, news);
+    if (c != MZ_RETIRED || wire->session != session) return c;
+    return is_done(wire->record.dc, BEGIN, (mz_wire){.session = session}) ? carried(wire, reply, news) : c;
+}
+
+int storage_begin(uint16_t dc, uint64_t wanted, uint64_t former) {
+    int done = is_done(dc, BEGIN, (mz_wire){.session = wanted, .number = former});
+    if (done) session = wanted;
+    return done;
+}
+
 int storage_keep(uint16_t dc, uint64_t incarnation, uint64_t mark) {
-    const asked ask = {.wire = {.incarnation = incarnation, .low_water = mark}, .keep = 1};
-    answered answer;
-    return is_answered(dc, &ask, &answer) && answer.kept;
+    return is_done(dc, KEEP, (mz_wire){.incarnation = incarnation, .low_water = mark});
+}
+
+void storage_fill(uint16_t dc, int full) {
+    servers[dc].is_full = full;
+    (void)is_done(dc, FILL, (mz_wire){.redo = full});
 }
 
 /* ---- a server */
 
-/* In this incarnation: brings all to the disk with the mark, and takes the copy. */
-static int is_kept(sqlite_dc *dc, int d, const mz_wire *mark, uint64_t incarnation) {
+static int is_copied(sqlite_dc *dc, int d) {
     char beside[PATH + 8];
     snprintf(beside, sizeof beside, "%s.new", servers[d].copy);
-    return mark->incarnation == incarnation && sqlite_dc_keep(dc, mark->low_water) && sqlite_dc_copy(dc, beside) &&
-           rename(beside, servers[d].copy) == 0;
+    return sqlite_dc_copy(dc, beside) && rename(beside, servers[d].copy) == 0;
+}
+
+/* In this incarnation: brings all to the disk with the mark, and takes the copy. */
+static int is_kept(sqlite_dc *dc, int d, const mz_wire *mark, uint64_t incarnation) {
+    return mark->incarnation == incarnation && sqlite_dc_keep(dc, mark->low_water) && is_copied(dc, d);
+}
+
+/* A copy from before the session isn't put back any more. */
+static int is_begun(sqlite_dc *dc, int d, const mz_wire *ask) {
+    int had_copy = access(servers[d].copy, R_OK) == 0;
+    return sqlite_dc_begin(dc, ask->session, ask->number) && (!had_copy || is_copied(dc, d));
 }
 
 static int losses(int d) {
@@ -96,8 +131,10 @@ static int losses(int d) {
 /* The file, in the incarnation that so many losses make. */
 static sqlite_dc *opened(int d, uint64_t incarnation) {
     mz_news news;
-    sqlite_dc *dc = sqlite_dc_open(servers[d].file, SESSION, SQLITE_DC_AT_KEEP);
-    if (!dc || !sqlite_dc_put_back(dc, incarnation, &news)) _exit(1);
+    sqlite_dc *dc = sqlite_dc_open(servers[d].file, 0, SQLITE_DC_AT_KEEP);
+    if (!dc) _exit(1);
+    (void)sqlite_dc_put_back(dc, incarnation, &news); /* where it serves a session */
+    if (servers[d].is_full) sqlite_dc_limit(dc, sqlite_dc_pages(dc));
     if (is_forgetful) sqlite_dc_forget_answers(dc);
     return dc;
 }
@@ -117,8 +154,10 @@ static int served(sqlite_dc *dc, int d, int fd, uint64_t incarnation) {
     answered answer;
     memset(&answer, 0, sizeof answer);
     if (recv(fd, &ask, sizeof ask, 0) != sizeof ask) return 0;
-    if (ask.keep) answer.kept = is_kept(dc, d, &ask.wire, incarnation);
-    else answer.carried = sqlite_dc_perform(dc, &ask.wire, &answer.reply, &answer.news);
+    if (ask.wish == PERFORM) answer.carried = sqlite_dc_perform(dc, &ask.wire, &answer.reply, &answer.news);
+    if (ask.wish == KEEP) answer.done = is_kept(dc, d, &ask.wire, incarnation);
+    if (ask.wish == BEGIN) answer.done = is_begun(dc, d, &ask.wire);
+    if (ask.wish == FILL) sqlite_dc_limit(dc, ask.wire.redo ? sqlite_dc_pages(dc) : 0);
     return send(fd, &answer, sizeof answer, MSG_NOSIGNAL) == sizeof answer;
 }
 

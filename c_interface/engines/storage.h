@@ -9,17 +9,24 @@ enum { DCS = 2, SESSION = 1 }; /* SESSION: of whoever has no log */
 
 /* ---- the way to its servers, of the client */
 
-/* `session` names the transaction component. 0 where there is no memory. The servers may be down. */
+/* `session` names the transaction component: with the first wire it begins where none is served. 0 where there is no memory. The
+ * servers may be down. */
 int storage_open(const char *folder, uint64_t session);
 
 /* Carries a wire, from several threads at once. */
 mz_carried storage_carry(const mz_wire *wire, mz_reply *reply, mz_news *news);
+
+/* Begins a session at a data component, as component_begin of component.h. */
+int storage_begin(uint16_t dc, uint64_t session, uint64_t former);
 
 /* Makes all that a data component has done durable, with this low-water mark, for good. 0 where nobody answered, or it isn't
  * this incarnation any more. */
 int storage_keep(uint16_t dc, uint64_t incarnation, uint64_t mark);
 
 /* ---- its servers, of the parent */
+
+/* From now on, or with 0 no more, this data component has no room for a further operation; the reserve of its own aside. */
+void storage_fill(uint16_t dc, int full);
 
 /* Within so many microseconds one is killed. */
 extern const unsigned servers_live;

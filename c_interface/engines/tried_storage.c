@@ -12,11 +12,34 @@ struct component {
     char folder[300];
 };
 
+/* Number 0 is old at every mark, and what undoes is answered also where it is full. */
+static int answers(component *c) {
+    const mz_wire probe = {.incarnation = __atomic_load_n(&c->incarnation, __ATOMIC_SEQ_CST), .op = MZ_READ, .undoes = 1};
+    mz_reply reply;
+    mz_news news;
+    return storage_carry(&probe, &reply, &news) != MZ_LOST;
+}
+
+static int comes_back(component *c) {
+    for (int waited = 0; waited < COMES_BACK_WITHIN; waited += 2) {
+        if (answers(c)) return 1;
+        usleep(2000);
+    }
+    return 0;
+}
+
 component *component_open(const char *folder) {
     component *c = (component *)calloc(1, sizeof *c);
     if (!c) return NULL;
     snprintf(c->folder, sizeof c->folder, "%s", folder);
-    return servers_begin(folder, getenv("CONTROL")) && storage_open(folder, SESSION) ? c : NULL;
+    return servers_begin(folder, getenv("CONTROL")) && storage_open(folder, SESSION) && comes_back(c) ? c : NULL;
+}
+
+/* Its incarnations may begin anew. */
+int component_begin(component *c, uint64_t session, uint64_t former) {
+    if (!storage_begin(0, session, former)) return 0;
+    if (former) __atomic_store_n(&c->incarnation, 0, __ATOMIC_SEQ_CST);
+    return 1;
 }
 
 void component_close(component *c) {
@@ -38,14 +61,6 @@ mz_carried component_carry(component *c, const mz_wire *wire, mz_reply *reply, m
 
 int component_checkpoint(component *c) { return storage_keep(0, c->incarnation, 0); }
 
-/* Number 0 is old at every mark. */
-static int answers(component *c) {
-    const mz_wire probe = {.incarnation = __atomic_load_n(&c->incarnation, __ATOMIC_SEQ_CST), .op = MZ_READ};
-    mz_reply reply;
-    mz_news news;
-    return storage_carry(&probe, &reply, &news) != MZ_LOST;
-}
-
 /* It is waited for, since it is killed more often than a server can start; and spared until it has done something that
  * can be lost, which takes a while on a busy machine. */
 int component_kill(component *c, int loses) {
@@ -53,14 +68,10 @@ int component_kill(component *c, int loses) {
     __atomic_store_n(&c->answered, 0, __ATOMIC_SEQ_CST);
     if (loses) servers_lose(0);
     else servers_kill(0, c->kills++);
-    for (int waited = 0; waited < COMES_BACK_WITHIN; waited += 2) {
-        if (answers(c)) return 1;
-        usleep(2000);
-    }
-    return 0;
+    return comes_back(c);
 }
 
 void component_fill(component *c, int full) {
     (void)c;
-    (void)full;
+    storage_fill(0, full);
 }

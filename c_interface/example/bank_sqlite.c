@@ -6,7 +6,7 @@
  * Behind each transfer a call writes and aborts. Once in a run each file is copied, goes on, and is put back
  * from the copy, so that it has lost what came between: its process tells that it is another incarnation,
  * and what it lost is redone. It prints what came of all that, and the sum of the accounts,
- * which has to stay: status 1 where it doesn't.
+ * which has to stay: status 1 where it doesn't, or where a file is told to have diverged.
  *
  * Words: `durable`, each wire is on disk before it is answered; `forgetful`, a control: what was performed
  * is performed again where it comes again; `untold`, a control: nobody is told that a file was put back. */
@@ -111,6 +111,12 @@ static void call(mz_tc *tc, uint64_t procedure, const uint64_t *args, size_t cou
     }
     if (c != MZ_OK) die("admit", c);
     c = mz_run(tc, txn, carry, NULL, TRIES, &r, &stopped);
+    if (c == MZ_DIVERGED) {
+        mz_reply reply = {0, 0, MZ_OLD, {0}};
+        mz_refused_reply(tc, NULL, &reply);
+        printf("diverged: number %llu\n", (unsigned long long)reply.number);
+        exit(1);
+    }
     if (c == MZ_OK && stopped == MZ_WAITS) c = mz_give_up(tc, txn, NULL);
     if (c != MZ_OK) die("run", c);
     ended[stopped == MZ_OVER ? r.outcome : 0]++;
@@ -206,7 +212,8 @@ int main(int argc, char **argv) {
     char refused[MZ_NAME + 1];
     mz_tc *tc = mz_tc_new(SERVERS, &c);
     if (!tc) die("mz_tc_new", c);
-    c = mz_load_object_file(tc, "build/bank.o", refused, NULL);
+    c = mz_set_session(tc, wanted.session);
+    if (c == MZ_OK) c = mz_load_object_file(tc, "build/bank.o", refused, NULL);
     if (c != MZ_OK) die(refused, c);
     srand(7);
     for (uint64_t a = 0; a < accounts; a++) {

@@ -19,13 +19,13 @@ else
     echo "SQLite: MONEY LOST OR MADE: $(tail -n 1 "$folder/said")"
     exit 1
 fi
-# The controls: what each shows has to be a sum that is off.
+# The controls: what each shows has to be a sum that is off, or a file that is told to have diverged.
 for control in forgetful untold; do
     if bank "$control" "$control"; then
         echo "SQLite, $control: the sum stayed, so that this control shows NOTHING"
         exit 1
     fi
-    if ! grep -q "^sum" "$folder/said"; then
+    if ! grep -q "^sum\|^diverged" "$folder/said"; then
         echo "SQLite, $control: it came to no sum"
         exit 1
     fi

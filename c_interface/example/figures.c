@@ -56,6 +56,7 @@ static mz_tc *loaded(uint64_t *move, uint64_t *deposits) {
     mz_code c;
     char refused[MZ_NAME + 1];
     mz_tc *tc = mz_tc_new(2, &c);
+    mz_set_session(tc, 1);
     if (!tc || mz_load_object_file(tc, "build/bank.o", refused, NULL) != MZ_OK) exit(3);
     if (mz_find(tc, "move", move) || mz_find(tc, "deposit_here", deposits) || mz_find(tc, "deposit_there", deposits + 1)) exit(3);
     return tc;

@@ -238,7 +238,7 @@ static int is_right(engine *e, uint64_t untold) {
 static void loaded(engine *e) {
     mz_code c;
     e->tc = mz_tc_new(DCS, &c);
-    if (!e->tc) die("mz_tc_new", c);
+    if (!e->tc || (c = mz_set_session(e->tc, SESSION)) != MZ_OK) die("mz_tc_new", c);
     if (!storage_open(e->folder, &e->log.image, &e->log.image_bytes)) die(e->folder, MZ_OK);
     snprintf(e->path, sizeof e->path, "%s/log", e->folder);
     log_open(&e->log, e->tc, e->path);

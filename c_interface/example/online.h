@@ -4,7 +4,7 @@
 
 #include "mazzulpe.h"
 
-enum { DCS = 2 };
+enum { DCS = 2, SESSION = 1 };
 
 /* Opens it in this folder, or makes it. *image is what the engine's file keeps of it, so many bytes: 0 of storage that
  * keeps itself. */

@@ -13,7 +13,7 @@ int storage_open(const char *folder, void **image, size_t *bytes) {
     *bytes = 0;
     for (int d = 0; d < DCS; d++) {
         snprintf(path, sizeof path, "%s/%d.db", folder, d);
-        files[d] = sqlite_dc_open(path, 1, SQLITE_DC_AT_KEEP);
+        files[d] = sqlite_dc_open(path, SESSION, SQLITE_DC_AT_KEEP);
         if (!files[d]) return 0;
     }
     return 1;

@@ -1,11 +1,14 @@
 #include "sqlite_dc.h"
+#include <fcntl.h>
 #include <stdio.h>
+#include <unistd.h>
 
+enum { RESERVE = 1 << 20, RESERVE_PAGES = 64, MOST_PAGES = 1073741823 };
 enum { BEGIN, COMMIT, ROLLBACK, STANDING, RAISE, FORGET, FIND, KEEP, READ, INSERT, UPDATE, DELETE, STATEMENTS };
 
 static const char *const text[STATEMENTS] = {
     "begin immediate", "commit", "rollback",
-    "select mark, incarnation from component", "update component set mark = ?1",
+    "select mark, incarnation, session from component", "update component set mark = ?1",
     "delete from performed where number <= ?1", "select said, value from performed where number = ?1",
     "insert or replace into performed values (?1, ?2, ?3)",
     "select value from records where tab = ?1 and key = ?2", "insert into records values (?1, ?2, ?3)",
@@ -18,7 +21,9 @@ struct sqlite_dc {
     sqlite3 *db;
     sqlite3_stmt *s[STATEMENTS];
     sqlite_dc_durable durable;
-    int forgetful;
+    int forgetful, is_full, has_reserve; /* is_full: the last wire found no room */
+    char *reserve;
+    uint64_t limit, limited; /* limited: the pages that SQLite knows as the most */
 };
 
 static int is_done(sqlite_dc *dc, int which) {
@@ -46,12 +51,13 @@ static int blob_of(sqlite_dc *dc, int which, int column, uint8_t *value, int *fi
     return found;
 }
 
-/* The low-water mark and the incarnation. */
-static int standing(sqlite_dc *dc, mz_news *news) {
+/* The low-water mark, the incarnation and the session; 0 where it serves none. */
+static int standing(sqlite_dc *dc, mz_news *news, uint64_t *session) {
     int found = sqlite3_step(dc->s[STANDING]) == SQLITE_ROW;
     if (found) {
         news->mark = (uint64_t)sqlite3_column_int64(dc->s[STANDING], 0);
         news->incarnation = (uint64_t)sqlite3_column_int64(dc->s[STANDING], 1);
+        *session = (uint64_t)sqlite3_column_int64(dc->s[STANDING], 2);
     }
     sqlite3_reset(dc->s[STANDING]);
     return found;
@@ -110,31 +116,99 @@ static int performed(sqlite_dc *dc, uint64_t mark, const mz_wire *w, mz_reply *r
     return is_done(dc, KEEP);
 }
 
-mz_carried sqlite_dc_perform(sqlite_dc *dc, const mz_wire *wire, mz_reply *reply, mz_news *news) {
+static mz_carried tried(sqlite_dc *dc, const mz_wire *wire, mz_reply *reply, mz_news *news) {
+    uint64_t session = 0;
+    dc->is_full = 0;
     if (!is_done(dc, BEGIN)) return MZ_LOST;
-    int known = standing(dc, news);
-    if (known && news->incarnation != wire->incarnation) {
-        is_done(dc, ROLLBACK);
-        return MZ_RESTARTED;
-    }
-    if (known && performed(dc, news->mark, wire, reply) && is_done(dc, COMMIT)) return MZ_REPLIED;
+    int known = standing(dc, news, &session);
+    mz_carried carried = !known || session != wire->session ? MZ_RETIRED
+                         : news->incarnation != wire->incarnation ? MZ_RESTARTED : MZ_LOST;
+    if (carried == MZ_LOST && performed(dc, news->mark, wire, reply) && is_done(dc, COMMIT)) return MZ_REPLIED;
+    dc->is_full = sqlite3_errcode(dc->db) == SQLITE_FULL;
     is_done(dc, ROLLBACK);
-    return MZ_LOST;
+    return carried;
+}
+
+/* ---- room */
+
+/* Whether the reserve is there, on the disk. */
+static int has_reserve(sqlite_dc *dc) {
+    if (dc->has_reserve) return 1;
+    int file = open(dc->reserve, O_WRONLY | O_CREAT | O_CLOEXEC, 0644);
+    dc->has_reserve = file >= 0 && !posix_fallocate(file, 0, RESERVE);
+    if (file >= 0) close(file);
+    return dc->has_reserve;
+}
+
+static void give_reserve(sqlite_dc *dc) {
+    dc->has_reserve = 0;
+    if (truncate(dc->reserve, 0)) perror(dc->reserve);
+}
+
+static void limit_to(sqlite_dc *dc, uint64_t pages) {
+    if (dc->limited != pages) executed(dc, sqlite3_mprintf("pragma max_page_count = %llu", pages ? pages : MOST_PAGES));
+    dc->limited = pages;
+}
+
+mz_carried sqlite_dc_perform(sqlite_dc *dc, const mz_wire *wire, mz_reply *reply, mz_news *news) {
+    int is_needed = wire->undoes || wire->redo;
+    if (!is_needed && !has_reserve(dc)) return MZ_LOST;
+    limit_to(dc, is_needed && dc->limit ? dc->limit + RESERVE_PAGES : dc->limit);
+    mz_carried carried = tried(dc, wire, reply, news);
+    if (!is_needed || carried != MZ_LOST || !dc->is_full) return carried;
+    give_reserve(dc);
+    return tried(dc, wire, reply, news);
+}
+
+void sqlite_dc_limit(sqlite_dc *dc, uint64_t pages) { dc->limit = pages; }
+
+uint64_t sqlite_dc_pages(sqlite_dc *dc) {
+    sqlite3_stmt *s;
+    uint64_t pages = 0;
+    if (sqlite3_prepare_v2(dc->db, "pragma page_count", -1, &s, NULL) != SQLITE_OK) return 0;
+    if (sqlite3_step(s) == SQLITE_ROW) pages = (uint64_t)sqlite3_column_int64(s, 0);
+    sqlite3_finalize(s);
+    return pages;
+}
+
+/* ---- */
+
+/* The one row of `component` becomes the session's, within a SQLite transaction; 0 where it may not. */
+static int is_begun(sqlite_dc *dc, uint64_t session, uint64_t former) {
+    mz_news news;
+    uint64_t served = 0;
+    int serves = standing(dc, &news, &served);
+    if (serves && served == session) return 1;
+    if (serves && served != former) return 0;
+    if (!executed(dc, sqlite3_mprintf("insert into ended select session from component; delete from performed;"))) return 0;
+    if (!serves) return executed(dc, sqlite3_mprintf("insert into component values (%lld, 0, 0)", (long long)session));
+    executed(dc, sqlite3_mprintf("update component set session = %lld, mark = 0 where not exists"
+                                 " (select 1 from ended where session = %lld)", (long long)session, (long long)session));
+    return sqlite3_changes(dc->db) == 1;
+}
+
+int sqlite_dc_begin(sqlite_dc *dc, uint64_t session, uint64_t former) {
+    if (!session || !executed(dc, sqlite3_mprintf("pragma synchronous = full")) || !is_done(dc, BEGIN)) return 0;
+    int ok = is_begun(dc, session, former);
+    ok = is_done(dc, ok ? COMMIT : ROLLBACK) && ok;
+    return executed(dc, sqlite3_mprintf("pragma synchronous = %s", synchronous[dc->durable])) && ok;
 }
 
 /* The mark is above each earlier one where anything was performed since, so there is something to commit, and with it
  * all before it comes to the disk. */
 int sqlite_dc_keep(sqlite_dc *dc, uint64_t mark) {
     mz_news news;
+    uint64_t session;
     if (!executed(dc, sqlite3_mprintf("pragma synchronous = full")) || !is_done(dc, BEGIN)) return 0;
-    int ok = standing(dc, &news) && (mark <= news.mark || raised(dc, mark));
+    int ok = standing(dc, &news, &session) && (mark <= news.mark || raised(dc, mark));
     ok = is_done(dc, ok ? COMMIT : ROLLBACK) && ok;
     return executed(dc, sqlite3_mprintf("pragma synchronous = %s", synchronous[dc->durable])) && ok;
 }
 
 int sqlite_dc_put_back(sqlite_dc *dc, uint64_t incarnation, mz_news *news) {
     char *sql = sqlite3_mprintf("update component set incarnation = %lld", (long long)incarnation);
-    return executed(dc, sql) && standing(dc, news);
+    uint64_t session;
+    return executed(dc, sql) && standing(dc, news, &session);
 }
 
 int sqlite_dc_copy(sqlite_dc *dc, const char *path) {
@@ -146,18 +220,17 @@ sqlite_dc *sqlite_dc_open(const char *path, uint64_t session, sqlite_dc_durable 
     sqlite_dc *dc = calloc(1, sizeof *dc);
     if (!dc) return NULL;
     dc->durable = durable;
-    int ok = sqlite3_open(path, &dc->db) == SQLITE_OK;
+    dc->reserve = sqlite3_mprintf("%s.reserve", path);
+    int ok = dc->reserve && sqlite3_open(path, &dc->db) == SQLITE_OK;
     if (ok) sqlite3_busy_timeout(dc->db, 5000);
     ok = ok && executed(dc, sqlite3_mprintf(
         "pragma journal_mode = wal; pragma synchronous = %s;"
         "create table if not exists records (tab integer, key integer, value blob not null, primary key (tab, key)) without rowid;"
         "create table if not exists performed (number integer primary key, said integer not null, value blob not null);"
         "create table if not exists component (session integer not null, mark integer not null, incarnation integer not null);"
-        "begin immediate;"
-        "delete from performed where not exists (select 1 from component where session = %lld);"
-        "delete from component where session <> %lld;"
-        "insert into component select %lld, 0, 0 where not exists (select 1 from component);"
-        "commit;", synchronous[durable], (long long)session, (long long)session, (long long)session));
+        "create table if not exists ended (session integer primary key);"
+        "insert into component select %lld, 0, 0 where %lld <> 0 and not exists (select 1 from component);",
+        synchronous[durable], (long long)session, (long long)session));
     for (int i = 0; ok && i < STATEMENTS; i++) ok = sqlite3_prepare_v2(dc->db, text[i], -1, &dc->s[i], NULL) == SQLITE_OK;
     if (ok) return dc;
     sqlite_dc_close(dc);
@@ -168,6 +241,7 @@ void sqlite_dc_close(sqlite_dc *dc) {
     if (!dc) return;
     for (int i = 0; i < STATEMENTS; i++) sqlite3_finalize(dc->s[i]);
     sqlite3_close(dc->db);
+    sqlite3_free(dc->reserve);
     free(dc);
 }
 

@@ -105,6 +105,8 @@ struct Handle {
     frame: NonNull<Frame>,
     session: u64,
     refused: Option<(u16, Reply)>,
+    /// Of a data component: it has begun its session.
+    is_begun: bool,
 }
 
 // SAFETY: a handle has no ties to the thread that made it, and the library proves its state `Send`.
@@ -126,7 +128,7 @@ impl Handle {
         let frame = NonNull::new(room.cast::<Frame>()).ok_or(MEMORY)?;
         // SAFETY: it is room for an engine, aligned as it has to be, and nobody else's.
         unsafe { mazzulpe_open(frame.as_ptr()) };
-        let mut handle = Handle { frame, session: 0, refused: None };
+        let mut handle = Handle { frame, session: 0, refused: None, is_begun: false };
         handle.frame().word = word;
         handle.frame().place = place;
         handle.call(what)?;
@@ -661,8 +663,20 @@ impl Dc {
         Ok(Dc { handle: Handle::new(call::START_DC, rows, operations)? })
     }
 
-    /// Performs a wire. [`SILENT`]: there is no reply.
+    /// From now on it performs this session's wires alone. [`BEGUN`]: it is another session's.
+    pub fn begin(&mut self, session: u64) -> Result<(), Refusal> {
+        if self.handle.is_begun && self.handle.session != session {
+            return Err(BEGUN);
+        }
+        (self.handle.is_begun, self.handle.session) = (true, session);
+        Ok(())
+    }
+
+    /// Performs a wire. [`SILENT`]: there is no reply. [`DEPOSED`]: it is of another session than [`Dc::begin`] gave it.
     pub fn perform(&mut self, wire: &Wire) -> Result<Reply, Refusal> {
+        if self.handle.is_begun && self.handle.session != wire.session {
+            return Err(DEPOSED);
+        }
         self.handle.put_wire(wire);
         self.handle.call(call::PERFORM)?;
         let f = self.handle.frame();

@@ -7,8 +7,9 @@
 
 enum { DCS = 2, TRIES = 3 };
 
-/* said: what the data component says to a wire in place of the right answer, where it isn't 0. */
-typedef struct { mz_tc *tc; mz_dc *dc; mz_said said; int carried, loses; mz_wire last; } bank;
+/* said: what the data component says to a wire in place of the right answer, where it isn't 0; becomes: what becomes of a wire in
+ * place of its being carried. */
+typedef struct { mz_tc *tc; mz_dc *dc; mz_said said; int carried, loses; mz_carried becomes; mz_wire last; } bank;
 
 static mz_carried carry(void *context, const mz_wire *wire, mz_reply *reply, mz_news *news) {
     bank *b = (bank *)context;
@@ -16,7 +17,9 @@ static mz_carried carry(void *context, const mz_wire *wire, mz_reply *reply, mz_
     b->carried++;
     b->last = *wire;
     if (b->loses) return MZ_LOST;
-    if (mz_dc_perform(b->dc, wire, reply) != MZ_OK) return MZ_LOST;
+    if (b->becomes) return b->becomes;
+    mz_code c = mz_dc_perform(b->dc, wire, reply);
+    if (c != MZ_OK) return c == MZ_DEPOSED ? MZ_RETIRED : MZ_LOST;
     if (b->said) reply->said = b->said;
     return MZ_REPLIED;
 }
@@ -111,6 +114,29 @@ static void deposed(void) {
     closed(&b);
 }
 
+/* Another session's wires, at the library's component; and a log that failed. */
+static void not_carried(void) {
+    bank b;
+    mz_news news;
+    mz_next stopped;
+    int up = 0;
+    started(&b);
+    SEEN(mz_set_session(b.tc, 5) == MZ_OK && mz_dc_begin(b.dc, 5) == MZ_OK && mz_dc_begin(b.dc, 5) == MZ_OK && mz_dc_begin(b.dc, 6) == MZ_BEGUN);
+    uint64_t txn = admitted(&b, 0, 2);
+    b.becomes = MZ_UNWRITTEN;
+    SEEN(ran(&b, txn, &stopped) == MZ_LOG_FAILED && b.carried == 1 && mz_refused_reply(b.tc, NULL, NULL) == MZ_NO_PLACE);
+    b.becomes = MZ_LOST;
+    SEEN(ran(&b, txn, &stopped) == MZ_OK && stopped == MZ_OVER && mz_dc_rows(b.dc) == 1);
+    SEEN(mz_set_session(b.tc, 6) == MZ_OK);
+    txn = admitted(&b, 0, 2);
+    SEEN(ran(&b, txn, &stopped) == MZ_DEPOSED && b.carried == 1 && refused(&b) == 3 && mz_open_count(b.tc) == 1);
+    SEEN(mz_dc_restart(b.dc, &news) == MZ_OK && mz_told(b.tc, 0, &news) == MZ_OK);
+    SEEN(mz_redo(b.tc, 0, carry, &b, TRIES, &up) == MZ_DEPOSED && !up && refused(&b) == 2);
+    b.becomes = MZ_UNWRITTEN;
+    SEEN(mz_redo(b.tc, 0, carry, &b, TRIES, &up) == MZ_LOG_FAILED && !up && mz_dc_rows(b.dc) == 0);
+    closed(&b);
+}
+
 /* A log comes back in another transaction component, with the undo open. */
 static mz_tc *recovered(bank *b) {
     static uint8_t rows[100][MZ_EVENT_BYTES];
@@ -170,6 +196,7 @@ int main(void) {
     diverges();
     deposed();
     undoes();
+    not_carried();
     printf("diverged: %s\n", failures ? "NOT as it has to be" : "told with its number, and what undoes says so");
     return failures != 0;
 }

@@ -1,8 +1,8 @@
 //! Whole calls: a transaction to its end, and a redo, over a function that carries wires.
 
 use super::{
-    BAD_ARGUMENT, DC_DOWN, DEPOSED, DIVERGED, NOT_DOWN, NOTHING_OPEN, News, Next, OLD_NEWS, Receipt, Refusal, Reply, Said,
-    Tc, Value, Wire, call,
+    BAD_ARGUMENT, DC_DOWN, DEPOSED, DIVERGED, LOG_FAILED, NOT_DOWN, NOTHING_OPEN, News, Next, OLD_NEWS, Receipt, Refusal, Reply,
+    Said, Tc, Value, Wire, call,
 };
 
 /// What became of a wire.
@@ -13,6 +13,10 @@ pub enum Carried {
     Replied(Reply),
     /// The data component restarted, and didn't perform the wire.
     Restarted(News),
+    /// It serves another session than the wire's, and didn't perform it: [`DEPOSED`].
+    Retired,
+    /// Your log failed, so that the wire wasn't carried: [`LOG_FAILED`].
+    Unwritten,
 }
 
 /// Where [`Tc::run`] stopped. Nothing is given up: behind `Waits` and `Down` wait a while, behind `Undoing` longer each
@@ -57,6 +61,12 @@ impl Tc {
         }
     }
 
+    /// Kept in mind as a reply that says Old.
+    fn retired(&mut self, wire: &Wire) -> Refusal {
+        let reply = Reply { number: wire.number, incarnation: wire.incarnation, said: Said::Old };
+        self.handle.refused_as(wire.op.record().dc, &reply)
+    }
+
     fn redo_within(
         &mut self,
         dc: u16,
@@ -80,6 +90,8 @@ impl Tc {
                     unless_final(self.redone(dc, &reply))?;
                 }
                 Carried::Restarted(news) => self.hear(dc, news, restarts)?,
+                Carried::Retired => return Err(self.retired(&wire)),
+                Carried::Unwritten => return Err(LOG_FAILED),
             }
         }
         Ok(true)
@@ -136,6 +148,8 @@ impl Tc {
                     }
                 }
                 Carried::Restarted(news) => self.hear(wire.op.record().dc, news, &mut restarts)?,
+                Carried::Retired => return Err(self.retired(&wire)),
+                Carried::Unwritten => return Err(LOG_FAILED),
                 Carried::Lost => {}
             }
             wire = self.renew(txn, tries, &mut restarts, carry)?;
