@@ -45,7 +45,7 @@ def wanted_of(data):
     number, place = whole(data)
     end = data[place:]
     if not number:
-        if stands_whole(end):
+        if stands_whole(0, end):
             return "Damaged frame 0"
         return None if frames(OWN).startswith(data) else "Other"
     if not is_end(number, end):

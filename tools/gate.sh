@@ -116,6 +116,7 @@ tools/hostile.py files
 tools/foreign_files.py --files 500
 tools/cut_logs.py --files 500
 tools/moved_files.py
+tools/torn_ends.py
 tools/followed_logs.py
 tools/watched_runs.py
 tools/full_component.py

@@ -14,6 +14,9 @@ from plain_model import op_text, record_text, said_text, value_text
 Stored = collections.namedtuple("Stored", "dcs base records unfinished")
 
 
+NEAR = 16  # so many numbers behind that of a frame that isn't whole are looked for whatever stands behind them
+
+
 class Refused(Exception):
     """Why a file isn't read."""
 
@@ -33,12 +36,19 @@ def whole(data):
     return number, place
 
 
-def stands_whole(data):
-    """Whether a whole frame stands anywhere."""
+def may_stand(first, number, after):
+    """Whether a frame of this number, behind which these bytes stand, may be where the first one would begin."""
+    followed = len(after) == 8 and int.from_bytes(after, "little") == number + 1
+    return first <= number and (number <= first + NEAR or followed)
+
+
+def stands_whole(first, data):
+    """Whether a whole frame stands anywhere that may be where the first one would begin, or any at the front."""
     for place in range(len(data) - 23):
         number, length, said = (int.from_bytes(data[place + at : place + at + 8], "little") for at in (0, 8, 16))
-        if length <= len(data) - place - 24:
-            if said == fnv(numbers(number, length) + data[place + 24 : place + 24 + length]):
+        end = place + 24 + length
+        if end <= len(data) and (not place or may_stand(first, number, data[end : end + 8])):
+            if said == fnv(numbers(number, length) + data[place + 24 : end]):
                 return True
     return False
 
@@ -47,7 +57,7 @@ def is_end(number, end):
     """Whether a crash can have left this of the frame of this number."""
     first, length = end[:8], int.from_bytes(end[8:16], "little")
     numbered = first in (numbers(number)[: len(first)], bytes(len(first)))
-    return numbered and (len(end) < 16 or length == 0 or len(end) <= 24 + length) and not stands_whole(end)
+    return numbered and (len(end) < 16 or length == 0 or len(end) <= 24 + length) and not stands_whole(number, end)
 
 
 def payloads_of(data):
@@ -55,7 +65,7 @@ def payloads_of(data):
     count, end = whole(data)
     rest, payloads, place = data[end:], [], 0
     if not count:
-        if stands_whole(rest):
+        if stands_whole(0, rest):
             raise Refused("Damaged frame 0")
         front = numbers(0, 64)[: len(data)]
         raise Refused("Empty" if len(data) < 88 and data[:16] == front else "Other")

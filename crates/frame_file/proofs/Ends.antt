@@ -66,7 +66,7 @@ no_longer zero xs = omega arith
 no_longer (suc k) [] = omega arith
 no_longer (suc k) (x ∷ xs) = (let rest = no_longer k xs in omega (arith, rest))
 
-within : (k : ℕ) (xs : List ℕ) → length (take k xs) ≤ k
+pub within : (k : ℕ) (xs : List ℕ) → length (take k xs) ≤ k
 within zero xs = omega arith
 within (suc k) [] = omega arith
 within (suc k) (x ∷ xs) = (let rest = within k xs in omega (arith, rest))

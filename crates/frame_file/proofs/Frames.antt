@@ -134,7 +134,7 @@ frame_is n bytes head rest payload after whole parts is =
     ∙ (ap (λ (x : List ℕ). x ++ rest) is
     ∙ (ap (λ (x : List ℕ). head_bytes n payload ++ x) parts ∙ sym (append_assoc (head_bytes n payload) payload after)))
 
-own_number : (m : ℕ) (p after bytes : List ℕ) → m < 2 ^ 64 → IsPayload p → bytes ≡ framed m p ++ after → from_le_bytes w64 (take 8 bytes) ≡ m
+pub own_number : (m : ℕ) (p after bytes : List ℕ) → m < 2 ^ 64 → IsPayload p → bytes ≡ framed m p ++ after → from_le_bytes w64 (take 8 bytes) ≡ m
 own_number m p after bytes small fits is =
     let b = begun m p after bytes fits is in
     ap (λ (x : List ℕ). from_le_bytes w64 x) (sym (take-take 8 24 bytes (omega arith)) ∙ ap (λ (x : List ℕ). take 8 x) b.head) ∙ number_back m p small

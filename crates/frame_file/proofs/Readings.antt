@@ -2,9 +2,12 @@
 use Rattle.std.proofs.Common.{
   ◌≡◌,
   ⊎_elim,
+  inl,
+  inr,
   ℕ,
   ◌+◌,
   ◌-◌,
+  ◌^◌,
   ◌<◌,
   ◌≤◌,
   zero,
@@ -27,10 +30,11 @@ use Rattle.std.proofs.Common.{
   length-append,
   take-append-drop,
 }
-use Rattle.std.proofs.lemmas.List.{append-nil, drop_at, take_at}
+use Rattle.std.proofs.lemmas.List.{append-nil, drop_at, take_at, take-append-le}
+use Rattle.std.specs.Int.{w64, from_le_bytes}
 use Rattle.std.specs.declared.alloc.Global.{Global}
 use Rattle.frame_file.specs.Device.{Cut}
-use Rattle.frame_file.specs.Frame.{framed, frames_from, IsPayload, ArePayloads, NoFrame, NoneBegins, HasFrame, IsEnd}
+use Rattle.frame_file.specs.Frame.{framed, frames_from, IsPayload, ArePayloads, NoFrame, NoneBegins, NoneStands, MayStand, IsFollowed, HasFrame, IsEnd}
 use Rattle.frame_file.specs.Reading.{Reads, ReadsAs, payloads_in}
 use Rattle.frame_file.proofs.Ends.{torn_front}
 use Rattle.frame_file.proofs.Frames.{Goes, goes, frames_push, fit_push, length-framed}
@@ -68,8 +72,20 @@ front_none n k rest none p after fits is =
     (sym (take-append-drop k rest) ∙ (ap (λ (b : List ℕ). b ++ drop k rest) is ∙ append_assoc (framed n p) after (drop k rest)))
 
 -- and of an end an end
-has_front : (k : ℕ) (rest : List ℕ) → HasFrame (take k rest) → HasFrame rest
-has_front k rest w = record {
+stands_on : (n number : ℕ) (after more : List ℕ) → MayStand n number after → MayStand n number (after ++ more)
+stands_on n number after more may = (
+  may.0,
+  ⊎_elim (λ (near : number ≤ n + 16). inl near)
+      (λ (next : IsFollowed number after). inr (record {
+        long = omega (arith, next.long, length-append after more);
+        next = ap (from_le_bytes w64) (take-append-le 8 after more next.long) ∙ next.next;
+      })) may.1,
+)
+
+has_front : (n k : ℕ) (rest : List ℕ) → HasFrame n (take k rest) → HasFrame n rest
+has_front n k rest w = record {
+  stands = ⊎_elim (λ (front : w.before ≡ []). inl front)
+      (λ (may : MayStand n w.number w.after). inr (stands_on n w.number w.after (drop k rest) may)) w.stands;
   number = w.number;
   small = w.small;
   payload = w.payload;
@@ -84,7 +100,7 @@ has_front k rest w = record {
 }
 
 end_front : (n k : ℕ) (rest : List ℕ) → IsEnd n rest → IsEnd n (take k rest)
-end_front n k rest ends = record { none = λ w. ends.none (has_front k rest w); torn = λ some. torn_front n k rest (ends.torn some) }
+end_front n k rest ends = record { none = λ w. ends.none (has_front n k rest w); torn = λ some. torn_front n k rest (ends.torn some) }
 
 pub end_inside : (file : List ℕ) (ps : List (List ℕ)) (end : ℕ) → Reads file ps → end ≡ length (frames_from 0 ps) → end ≤ length file
 end_inside file ps end reads at = (let long = ap length reads.is in omega (arith, at, long, length-append (frames_from 0 ps) reads.rest))
@@ -152,25 +168,27 @@ fit_on payload vecs new v fit fits grown is = subst ArePayloads (sym (all_on pay
 
 -- ---- frames that stand anywhere
 
-pub frame_in : (place : ℕ) (bytes : List ℕ) → HasFrame (drop place bytes) → HasFrame bytes
-frame_in place bytes w = record {
-  number = w.number;
-  small = w.small;
-  payload = w.payload;
-  fits = w.fits;
-  before = take place bytes ++ w.before;
-  after = w.after;
-  is =
-      sym (take-append-drop place bytes)
-      ∙ (ap (λ (b : List ℕ). take place bytes ++ b) w.is ∙ sym (append_assoc (take place bytes) w.before (framed w.number w.payload ++ w.after)));
+pub frame_in : (n place own : ℕ) (bytes payload after : List ℕ) → MayStand n own after → own < 2 ^ 64 → IsPayload payload
+    → drop place bytes ≡ framed own payload ++ after → HasFrame n bytes
+frame_in n place own bytes payload after may small fits is = record {
+  number = own;
+  small = small;
+  payload = payload;
+  fits = fits;
+  before = take place bytes;
+  after = after;
+  is = sym (take-append-drop place bytes) ∙ ap (λ (b : List ℕ). take place bytes ++ b) is;
+  stands = inr may;
 }
 
-pub none_in : (bytes : List ℕ) → ((at : ℕ) → at < length bytes → NoneBegins (drop at bytes)) → HasFrame bytes → ⊥
-none_in bytes none w =
+pub none_in : (n : ℕ) (bytes : List ℕ) → NoneBegins bytes → ((at : ℕ) → at < length bytes → NoneStands n (drop at bytes)) → HasFrame n bytes → ⊥
+none_in n bytes front none w =
     let frame = framed w.number w.payload in
     let long = ap length w.is in
     let inside : length w.before < length bytes
     = omega (arith, long, length-append w.before (frame ++ w.after), length-append frame w.after, length-framed w.number w.payload) in
     let there : drop (length w.before) bytes ≡ frame ++ w.after
     = ap (λ (b : List ℕ). drop (length w.before) b) w.is ∙ drop_at w.before (frame ++ w.after) (length w.before) refl in
-    none (length w.before) inside w.number w.small w.payload w.after w.fits there
+    ⊎_elim (λ (at_front : w.before ≡ []). front w.number w.small w.payload w.after w.fits
+    (w.is ∙ ap (λ (b : List ℕ). b ++ (frame ++ w.after)) at_front))
+    (λ (may : MayStand n w.number w.after). none (length w.before) inside w.number w.small w.payload w.after w.fits may there) w.stands

@@ -3,3 +3,4 @@ pub mod Frame
 pub mod Reading
 pub mod Past
 pub mod Memory
+pub mod Sums

@@ -1,10 +1,11 @@
 -- What a file of frames is read as, and what a crash leaves of it.
-use Rattle.std.specs.Prelude.{◌≡◌, ◌⊎◌, ℕ, List, [], ◌∷◌, ◌++◌, length, map, Vec}
+use Rattle.std.specs.Prelude.{◌≡◌, ◌⊎◌, ℕ, ◌+◌, List, [], ◌∷◌, ◌++◌, length, drop, map, Vec}
 use Rattle.std.specs.declared.alloc.Global.{Global}
 use Rattle.frame_file.specs.Device.{Only, Torn}
-use Rattle.frame_file.specs.Frame.{frames_from, framed, IsPayload, ArePayloads, NoFrame, MayBeTorn, IsEnd}
+use Rattle.frame_file.specs.Frame.{frames_from, framed, IsPayload, ArePayloads, NoFrame, MayStand, IsHead, MayBeTorn, IsEnd}
 use Rattle.frame_file.specs.declared.device.DeviceError.TheVariants.{Memory}
 use Rattle.frame_file.specs.declared.file.FrameFile.{FrameFile}
+use Rattle.frame_file.specs.declared.reading.Claim.{Claim}
 use Rattle.frame_file.specs.declared.reading.Found.{Found}
 use Rattle.frame_file.specs.declared.reading.FrameFault.{FrameFault}
 use Rattle.frame_file.specs.declared.reading.FrameFault.TheVariants.{Device, Full, Damaged}
@@ -15,6 +16,10 @@ pub record Reads (file : List ℕ) (payloads : List (List ℕ)) : Type 0 where
   pub is : file ≡ frames_from 0 payloads ++ rest
   pub fit : ArePayloads payloads
   pub ends : NoFrame (length payloads) rest
+
+-- the head of a frame at the front of the bytes, which may be where the one of this number would begin
+abbrev pub IsClaim : ℕ → List ℕ → Claim → Type 0
+IsClaim n bytes claim = IsHead claim.number claim.size claim.said bytes × MayStand n claim.number (drop (24 + claim.size) bytes)
 
 -- the frame of this number isn't whole, and what stands there is no end that a crash leaves
 pub record IsDamaged (file : List ℕ) (number : ℕ) : Type 0 where

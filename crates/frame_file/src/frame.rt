@@ -2,7 +2,7 @@
 
 ghost use Rattle.std.specs.Prelude.{◌≡◌, ◌↔◌, ◌++◌, ◌<◌, ◌≤◌, ◌^◌, drop, length, IsTrue, IfSome, IfNone, OnOk};
 ghost use Rattle.std.specs.Int.{w64, to_le_bytes, from_le_bytes};
-ghost use Rattle.frame_file.specs.Frame.{hash_step, hashed, checksum, head_bytes, framed, IsPayload, NoFrame, MayBeTorn};
+ghost use Rattle.frame_file.specs.Frame.{hash_step, hashed, measured, checksum, head_bytes, framed, IsPayload, NoFrame, MayBeTorn};
 ghost use Rattle.frame_file.specs.Device.{IsLeft};
 
 use byteorder::{ByteOrder, LittleEndian};
@@ -14,7 +14,7 @@ pub const HEAD: usize = 24;
 // The hash of no bytes, and the factor of each step.
 const BASIS: u64 = 0xcbf2_9ce4_8422_2325;
 
-const PRIME: u64 = 0x0100_0000_01b3;
+pub(crate) const PRIME: u64 = 0x0100_0000_01b3;
 
 fn hash_step(hash: u64, byte: u8) -> u64
     ensures { result ≡ hash_step hash byte }
@@ -25,7 +25,7 @@ fn hash_step(hash: u64, byte: u8) -> u64
 // FNV-1a: since each step turns different hashes into different ones, bytes that differ at one place alone
 // have different hashes.
 #[tactic(auto, unfolding(crate::specs::Frame::hashed))]
-fn hashed(hash: u64, bytes: &[u8]) -> u64
+pub(crate) fn hashed(hash: u64, bytes: &[u8]) -> u64
     ensures { result ≡ hashed hash bytes.now }
 {
     let mut hash = hash;
@@ -44,12 +44,17 @@ fn long_bytes(number: u64) -> [u8; 8]
     bytes
 }
 
+// What a checksum is before the payload is gone over.
+pub(crate) fn measured(number: u64, size: u64) -> u64
+    ensures { result ≡ measured number size }
+{
+    hashed(hashed(BASIS, &long_bytes(number)), &long_bytes(size))
+}
+
 fn checksum(number: u64, payload: &[u8]) -> u64
     ensures { result ≡ checksum number payload.now }
 {
-    let numbered = hashed(BASIS, &long_bytes(number));
-    let measured = hashed(numbered, &long_bytes(payload.len() as u64));
-    hashed(measured, payload)
+    hashed(measured(number, payload.len() as u64), payload)
 }
 
 /// A number from its 8 bytes, the lowest first.
@@ -93,14 +98,13 @@ fn is_head(head: &[u8], number: u64, payload: &[u8]) -> bool
 {
     let is_numbered = &head[..8] == long_bytes(number).as_slice();
     let is_measured = &head[8..16] == long_bytes(payload.len() as u64).as_slice();
-    let is_checked = &head[16..] == long_bytes(checksum(number, payload)).as_slice();
     if !is_numbered {
         return false;
     }
     if !is_measured {
         return false;
     }
-    is_checked
+    &head[16..] == long_bytes(checksum(number, payload)).as_slice()
 }
 
 /// The frame of this number that the bytes begin with: its payload, and the bytes behind it.

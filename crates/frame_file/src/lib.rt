@@ -19,6 +19,7 @@ mod file;
 mod frame;
 mod memory;
 mod reading;
+mod sums;
 
 pub use device::{Device, DeviceError};
 pub use file::FrameFile;

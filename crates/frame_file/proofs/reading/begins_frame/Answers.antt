@@ -1,4 +1,4 @@
-use Rattle.std.proofs.Common.{[], arith, rules}
+use Rattle.std.proofs.Common.{[], inl, refl, arith, rules}
 use Rattle.frame_file.proofs.Frames.{none_begins_short, none_begins}
 use Rattle.frame_file.proofs.reading.begins_frame.Goals as goal
 
@@ -6,7 +6,7 @@ pub returns-then-bytes-lt-HEAD-clause-none : goal.returns-then-bytes-lt-HEAD-cla
 returns-then-bytes-lt-HEAD-clause-none c = λ no. none_begins_short c.args.bytes.now (omega arith)
 
 pub returns-in-Some-clause-frame : goal.returns-in-Some-clause-frame
-returns-in-Some-clause-frame c = λ yes. record {
+returns-in-Some-clause-frame c = λ n yes. record {
   number = c.long-own.result;
   small = search rules;
   payload = c.in-Some._payload.now;
@@ -14,6 +14,7 @@ returns-in-Some-clause-frame c = λ yes. record {
   before = [];
   after = c.in-Some._after.now;
   is = c.in-Some.ensures.frame;
+  stands = inl refl;
 }
 
 pub returns-in-None-clause-none : goal.returns-in-None-clause-none

@@ -23,8 +23,8 @@ frames-preserved c =
       fit = fit_on c.in-Some.payload.now vecs c.push.new.self.items v c.frames.invariant.fit c.in-Some.ensures.fits (search rules) (search rules);
     }
 
-pub returns-then-not-is_end-clause-fault : goal.returns-then-not-is_end-clause-fault
-returns-then-not-is_end-clause-fault c =
+pub returns-then-not-ends-clause-fault : goal.returns-then-not-ends-clause-fault
+returns-then-not-ends-clause-fault c =
     let vecs = c.frames.payloads.items in
     let many = count_payloads vecs in
     let count : c.len.result ≡ length (payloads_in vecs) = omega (arith, many) in
@@ -37,7 +37,7 @@ returns-then-not-is_end-clause-fault c =
         ends = subst (λ (k : ℕ). NoFrame k c.frames.rest.now) count c.in_default.ensures.none;
       };
       number_is = omega (arith, many);
-      no_end = c.is_end.ensures.none c.if-not-is_end.true;
+      no_end = c.in_ok-ends.ensures.none c.if-not-ends.true;
     }
 
 pub returns-clause-found : goal.returns-clause-found
@@ -53,5 +53,5 @@ returns-clause-found c =
         ends = subst (λ (k : ℕ). NoFrame k c.frames.rest.now) count c.in_default.ensures.none;
       };
       end = (let long = ap length c.frames.invariant.so_far in omega (arith, long, length-append (frames_from 0 (payloads_in vecs)) c.frames.rest.now));
-      ends = subst (λ (k : ℕ). IsEnd k c.frames.rest.now) (omega (arith, count, many)) (c.is_end.ensures.end c.if-not-is_end.false);
+      ends = subst (λ (k : ℕ). IsEnd k c.frames.rest.now) (omega (arith, count, many)) (c.in_ok-ends.ensures.end c.if-not-ends.false);
     }
