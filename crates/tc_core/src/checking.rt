@@ -272,8 +272,14 @@ fn replayed(alloc: Global, procs: &Procs, log: &Log, events: usize) -> Result<Tc
         state.known();
         match state.follow(&event_at(log, place)) {
             Ok(()) => {}
-            Err(Unlike::Illegal) => return Err(CheckFault::LogIllegal(place)),
-            Err(Unlike::Memory) => return Err(CheckFault::Memory),
+            Err(Unlike::Illegal) => {
+                drop(state);
+                return Err(CheckFault::LogIllegal(place));
+            }
+            Err(Unlike::Memory) => {
+                drop(state);
+                return Err(CheckFault::Memory);
+            }
         }
     }
     Ok(state)
@@ -294,9 +300,10 @@ pub(crate) fn first_book(
 {
     let TcState {
         alloc: _,
-        procs: _,
+        procs,
         book,
     } = replayed(alloc, procs, log, events)?;
+    drop(procs);
     Ok(book)
 }
 
@@ -319,17 +326,23 @@ pub fn stands_behind(alloc: Global, procs: &Procs, log: &Log) -> Result<Checked,
     let book = book_of(alloc, procs, log)?;
     let open = book.txns.len();
     let Book {
-        txns: _,
+        txns,
         locks,
-        numbers: _,
-        log: _,
-        given_up: _,
+        numbers,
+        log,
+        given_up,
         serials: _,
         owed: _,
         promised: _,
-        sites: _,
-        starts: _,
+        sites,
+        starts,
     } = book;
+    drop(txns);
+    drop(numbers);
+    drop(log);
+    drop(given_up);
+    drop(sites);
+    drop(starts);
     Ok(Checked { locks, open })
 }
 
@@ -338,6 +351,7 @@ pub fn check_log(alloc: Global, procs: &Procs, log: &Log) -> Result<(), CheckFau
     ensures legal { OnOk result (Legal procs.now.codes log.now.events) }
     ensures fault { IfErr result (IsFault procs.now.codes log.now.events) }
 {
-    let _book = book_of(alloc, procs, log)?;
+    let book = book_of(alloc, procs, log)?;
+    drop(book);
     Ok(())
 }

@@ -15,6 +15,7 @@ use crate::sites::{UNTOLD, starts};
 use crate::state::{Request, TcState, TxnId};
 use access_slots::op::News;
 use std::alloc::{AllocError, Global};
+use std::mem;
 use tc_log::log::Log;
 use transactions::{Redoing, Sent, Site};
 
@@ -176,7 +177,7 @@ impl TcState {
         let begun = book.given_up.from();
         match first_forgotten(begun, notes) {
             None => {
-                self.book = book;
+                drop(mem::replace(&mut self.book, book));
                 Ok(())
             }
             Some(dc) => {
@@ -205,7 +206,7 @@ impl TcState {
         ensures room { vec_capacity requests.new ≡ vec_capacity requests.old }
     {
         match self.recovered(&self.book.log, events, notes) {
-            Ok(book) => self.book = book,
+            Ok(book) => drop(mem::replace(&mut self.book, book)),
             Err(CheckFault::Memory) => return Err(AllocError),
             Err(CheckFault::LogIllegal(_)) => unreachable!(),
         }

@@ -212,8 +212,13 @@ impl TcState {
         ensures sites { IfOk result (λ s. s.sites ≡ replicate procs.dcs untold) }
     {
         procs.known();
-        let book = Book::new(alloc, procs.dcs())?;
-        Ok(TcState { alloc, procs, book })
+        match Book::new(alloc, procs.dcs()) {
+            Ok(book) => Ok(TcState { alloc, procs, book }),
+            Err(error) => {
+                drop(procs);
+                Err(error)
+            }
+        }
     }
 
     /// What the type keeps, told to a caller.

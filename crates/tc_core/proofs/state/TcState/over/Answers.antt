@@ -4,6 +4,6 @@ use Rattle.tc_core.proofs.state.TcState.over.Goals as goal
 
 pub invariant_of-result : goal.invariant_of-result
 invariant_of-result c = (
-  c.in_ok-book.ensures.kept _ c.known.ensures.good,
-  ap length c.in_ok-book.ensures.sites ∙ (length-replicate _ _ ∙ c.dcs.ensures),
+  c.in-Ok.ensures.kept _ c.known.ensures.good,
+  ap length c.in-Ok.ensures.sites ∙ (length-replicate _ _ ∙ c.dcs.ensures),
 )

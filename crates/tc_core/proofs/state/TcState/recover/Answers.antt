@@ -19,8 +19,9 @@ returns-in-None-clause-legal c =
 
 pub returns-in-None-clause-ok : goal.returns-in-None-clause-ok
 returns-in-None-clause-ok c =
-    recovered-core c.self.inside.procs c.self.inside.book c.in-Ok.book c.args.self.now c.args.log.now.events c.args.notes.now _
-    c.self.view_is c.len.ensures c.in-Ok.ensures.events c.in-Ok.ensures.given_up c.in-Ok.ensures.sites
+    rw c.replace.ensures.after
+    (recovered-core c.self.inside.procs c.self.inside.book c.in-Ok.book c.args.self.now c.args.log.now.events c.args.notes.now _
+    c.self.view_is c.len.ensures c.in-Ok.ensures.events c.in-Ok.ensures.given_up c.in-Ok.ensures.sites)
 
 pub returns-in-None-clause-reaches : goal.returns-in-None-clause-reaches
 returns-in-None-clause-reaches c =
