@@ -1,7 +1,7 @@
 //! The commands and their options, with what `--help` says of each.
 
 ghost use Rattle.std.specs.Prelude.{◌≡◌, true, false, IfOk};
-ghost use Rattle.clap.specs.Words.{App, app_of, with_subcommand, rule_of};
+ghost use Rattle.clap.specs.Words.{App, Rule, app_of, with_subcommand, with_rule, rule_of};
 ghost use Rattle.clap.specs.declared.builder.command.Command.TheViews.{out-Command};
 ghost use Rattle.command_line.specs.Task.{Run};
 ghost use Rattle.command_line.specs.Said.{procd_app, exec_app, asm_app, dis_app, verify_app, world_app, told_app, kept_app, run_app, log_app};
@@ -11,6 +11,25 @@ ghost use Rattle.command_line.specs.Said.{results_rule, tell_rule, checkpoint_ru
 
 use clap::{Arg, ArgAction, Command};
 use std::alloc::{AllocError, Global};
+
+// One argument more, once the command is made so far.
+fn with_arg<'a>(
+    made: Result<Command<'a>, AllocError>,
+    arg: Arg<'a>,
+) -> Result<Command<'a>, AllocError>
+    ensures app { (app : App) (rule : Rule) → IfOk made.entry (λ c. app_of c ≡ app) → rule_of arg.entry ≡ rule
+        → arg.entry.global ≡ false → IfOk result (λ c. app_of c ≡ with_rule app rule) }
+    ensures local { IfOk made.entry (λ c. (out-Command c).has_globals ≡ false) → arg.entry.global ≡ false
+        → IfOk result (λ c. (out-Command c).has_globals ≡ false) }
+{
+    match made {
+        Ok(command) => command.arg(arg),
+        Err(AllocError) => {
+            drop(arg);
+            Err(AllocError)
+        }
+    }
+}
 
 // FILE
 fn file_arg<'a>(alloc: Global, help: &'a str) -> Arg<'a>
@@ -46,10 +65,9 @@ fn exec_command<'a>(alloc: Global) -> Result<Command<'a>, AllocError>
         .action(ArgAction::Append)
         .value_name("ARG")
         .help("The code's arguments, at most 8: numbers of 64 bits in decimal");
-    Command::new(alloc, "exec")
-        .arg(raw_arg(alloc))?
-        .arg(file_arg(alloc, CODE_HELP))?
-        .arg(arg)
+    let with_raw = with_arg(Ok(Command::new(alloc, "exec")), raw_arg(alloc));
+    let with_file = with_arg(with_raw, file_arg(alloc, CODE_HELP));
+    with_arg(with_file, arg)
 }
 
 // `asm FILE`
@@ -65,9 +83,8 @@ fn dis_command<'a>(alloc: Global) -> Result<Command<'a>, AllocError>
     ensures app { IfOk result (λ c. app_of c ≡ dis_app) }
     ensures local { IfOk result (λ c. (out-Command c).has_globals ≡ false) }
 {
-    Command::new(alloc, "dis")
-        .arg(raw_arg(alloc))?
-        .arg(file_arg(alloc, CODE_HELP))
+    let with_raw = with_arg(Ok(Command::new(alloc, "dis")), raw_arg(alloc));
+    with_arg(with_raw, file_arg(alloc, CODE_HELP))
 }
 
 const VERIFY_HELP: &str =
@@ -126,11 +143,10 @@ fn world_command<'a>(alloc: Global) -> Result<Command<'a>, AllocError>
     ensures app { IfOk result (λ c. app_of c ≡ world_app) }
     ensures local { IfOk result (λ c. (out-Command c).has_globals ≡ false) }
 {
-    Command::new(alloc, "world")
-        .arg(log_arg(alloc))?
-        .arg(audit_arg(alloc))?
-        .arg(file_arg(alloc, SCRIPT_HELP))?
-        .arg(script_arg(alloc, BESIDE_HELP))
+    let with_log = with_arg(Ok(Command::new(alloc, "world")), log_arg(alloc));
+    let with_audit = with_arg(with_log, audit_arg(alloc));
+    let with_file = with_arg(with_audit, file_arg(alloc, SCRIPT_HELP));
+    with_arg(with_file, script_arg(alloc, BESIDE_HELP))
 }
 
 // An option with a value.
@@ -226,13 +242,12 @@ fn told_command<'a>(alloc: Global) -> Result<Command<'a>, AllocError>
         "N",
         "How often a request is sent at most: 1 to 1000, or 3 where it isn't said",
     );
-    Command::new(alloc, "run")
-        .arg(workers)?
-        .arg(tries)?
-        .arg(stats_arg(alloc))?
-        .arg(audit_arg(alloc))?
-        .arg(results_arg(alloc))?
-        .arg(tell_arg(alloc))
+    let with_workers = with_arg(Ok(Command::new(alloc, "run")), workers);
+    let with_tries = with_arg(with_workers, tries);
+    let with_stats = with_arg(with_tries, stats_arg(alloc));
+    let with_audit = with_arg(with_stats, audit_arg(alloc));
+    let with_results = with_arg(with_audit, results_arg(alloc));
+    with_arg(with_results, tell_arg(alloc))
 }
 
 // The same with `[--metrics PROM] [--trace JSON] [--log LOG] [--partitions]` behind it.
@@ -258,11 +273,10 @@ fn kept_command<'a>(alloc: Global) -> Result<Command<'a>, AllocError>
         "LOG",
         "A file that keeps the log: what it has is gone on from, and each answer waits for it",
     );
-    told_command(alloc)?
-        .arg(metrics)?
-        .arg(trace)?
-        .arg(log)?
-        .arg(partitions_arg(alloc))
+    let with_metrics = with_arg(told_command(alloc), metrics);
+    let with_trace = with_arg(with_metrics, trace);
+    let with_log = with_arg(with_trace, log);
+    with_arg(with_log, partitions_arg(alloc))
 }
 
 // The same with `[--checkpoint] [--checkpoint-over BYTES] FILE [SCRIPT]` behind it.
@@ -276,11 +290,10 @@ fn run_command<'a>(alloc: Global) -> Result<Command<'a>, AllocError>
         "BYTES",
         "The same where LOG has more bytes than this: before the first call, between parts of 65536 calls and behind the last",
     );
-    kept_command(alloc)?
-        .arg(checkpoint_arg(alloc))?
-        .arg(over)?
-        .arg(file_arg(alloc, SCRIPT_HELP))?
-        .arg(script_arg(alloc, BESIDE_HELP))
+    let with_checkpoint = with_arg(kept_command(alloc), checkpoint_arg(alloc));
+    let with_over = with_arg(with_checkpoint, over);
+    let with_file = with_arg(with_over, file_arg(alloc, SCRIPT_HELP));
+    with_arg(with_file, script_arg(alloc, BESIDE_HELP))
 }
 
 // --rows
@@ -336,31 +349,36 @@ fn log_command<'a>(alloc: Global) -> Result<Command<'a>, AllocError>
         "Only the events from place P on, from 0; of a picture the first ones there",
     );
     let tail = option_arg(alloc, "tail", "N", "Only the last N events");
-    Command::new(alloc, "log")
-        .arg(rows_arg(alloc))?
-        .arg(audit_arg(alloc))?
-        .arg(follow_arg(alloc))?
-        .arg(picture)?
-        .arg(from)?
-        .arg(tail)?
-        .arg(file_arg(alloc, "The log's file: a path, or - for standard input"))?
-        .arg(source_arg(alloc))?
-        .arg(script_arg(alloc, BESIDE_HELP))
+    let with_rows = with_arg(Ok(Command::new(alloc, "log")), rows_arg(alloc));
+    let with_audit = with_arg(with_rows, audit_arg(alloc));
+    let with_follow = with_arg(with_audit, follow_arg(alloc));
+    let with_picture = with_arg(with_follow, picture);
+    let with_from = with_arg(with_picture, from);
+    let with_tail = with_arg(with_from, tail);
+    let file = file_arg(alloc, "The log's file: a path, or - for standard input");
+    let with_file = with_arg(with_tail, file);
+    let with_source = with_arg(with_file, source_arg(alloc));
+    with_arg(with_source, script_arg(alloc, BESIDE_HELP))
 }
 
-// Adds a subcommand, once it is made, with what its help begins with.
+// Adds a subcommand, once both are made, with what its help begins with.
 fn with_command<'a>(
-    procd: Command<'a>,
+    procd: Result<Command<'a>, AllocError>,
     made: Result<Command<'a>, AllocError>,
     about: &'a str,
 ) -> Result<Command<'a>, AllocError>
-    ensures { (app : App) → IfOk made.entry (λ c. app_of c ≡ app) → IfOk made.entry (λ c. (out-Command c).has_globals ≡ false)
-        → IfOk result (λ r. app_of r ≡ with_subcommand (app_of procd.entry) app.top) }
+    ensures { (whole app : App) → IfOk procd.entry (λ c. app_of c ≡ whole) → IfOk made.entry (λ c. app_of c ≡ app)
+        → IfOk made.entry (λ c. (out-Command c).has_globals ≡ false)
+        → IfOk result (λ r. app_of r ≡ with_subcommand whole app.top) }
 {
-    match made {
-        Ok(command) => procd.subcommand(command.about(about)),
+    let Ok(command) = made else {
+        drop(procd);
+        return Err(AllocError);
+    };
+    match procd {
+        Ok(procd) => procd.subcommand(command.about(about)),
         Err(AllocError) => {
-            drop(procd);
+            drop(command);
             Err(AllocError)
         }
     }
@@ -393,13 +411,13 @@ const RELEASE: &str = "0.1.0";
 pub(crate) fn procd_command<'a>(alloc: Global) -> Result<Command<'a>, AllocError>
     ensures { IfOk result (λ c. app_of c ≡ procd_app) }
 {
-    let procd = Command::new(alloc, "procd");
-    let with_exec = with_command(procd, exec_command(alloc), EXEC)?;
-    let with_asm = with_command(with_exec, asm_command(alloc), ASM)?;
-    let with_dis = with_command(with_asm, dis_command(alloc), DIS)?;
-    let with_verify = with_command(with_dis, verify_command(alloc), VERIFY)?;
-    let with_world = with_command(with_verify, world_command(alloc), WORLD)?;
-    let with_run = with_command(with_world, run_command(alloc), RUN)?;
+    let procd = Ok(Command::new(alloc, "procd"));
+    let with_exec = with_command(procd, exec_command(alloc), EXEC);
+    let with_asm = with_command(with_exec, asm_command(alloc), ASM);
+    let with_dis = with_command(with_asm, dis_command(alloc), DIS);
+    let with_verify = with_command(with_dis, verify_command(alloc), VERIFY);
+    let with_world = with_command(with_verify, world_command(alloc), WORLD);
+    let with_run = with_command(with_world, run_command(alloc), RUN);
     let with_log = with_command(with_run, log_command(alloc), LOG)?;
     Ok(
         with_log

@@ -1,21 +1,16 @@
-use Rattle.std.proofs.Common.{◌≡◌, ◌∙◌, ap}
-use Rattle.clap.specs.Words.{App, with_subcommand}
+use Rattle.std.proofs.Common.{◌∙◌, ap}
 use Rattle.clap.specs.Simple.{app_of_fields}
-use Rattle.command_line.specs.Said.{procd_app, exec_app, asm_app, dis_app, verify_app, world_app, run_app, log_app, with_version}
+use Rattle.command_line.specs.Said.{procd_app, with_version}
 use Rattle.command_line.proofs.commands.procd_command.Goals as goal
-
--- one subcommand more, behind those that are there
-behind : (sub one other : App) → one ≡ other → with_subcommand one sub.top ≡ with_subcommand other sub.top
-behind sub one other same = ap (λ (a : App). with_subcommand a sub.top) same
 
 pub returns : goal.returns
 unfolding procd_app
 returns c =
-    let exec = c.in_ok-with_exec.ensures exec_app c.exec_command.ensures.app c.exec_command.ensures.local ∙ behind exec_app _ _ c.new-procd.ensures.app in
-    let asm = c.in_ok-with_asm.ensures asm_app c.asm_command.ensures.app c.asm_command.ensures.local ∙ behind asm_app _ _ exec in
-    let dis = c.in_ok-with_dis.ensures dis_app c.dis_command.ensures.app c.dis_command.ensures.local ∙ behind dis_app _ _ asm in
-    let verify = c.in_ok-with_verify.ensures verify_app c.verify_command.ensures.app c.verify_command.ensures.local ∙ behind verify_app _ _ dis in
-    let world = c.in_ok-with_world.ensures world_app c.world_command.ensures.app c.world_command.ensures.local ∙ behind world_app _ _ verify in
-    let run = c.in_ok-with_run.ensures run_app c.run_command.ensures.app c.run_command.ensures.local ∙ behind run_app _ _ world in
-    let log = c.in_ok-with_log.ensures log_app c.log_command.ensures.app c.log_command.ensures.local ∙ behind log_app _ _ run in
+    let exec = c.with_command-with_exec.ensures _ _ c.new.ensures.app c.exec_command.ensures.app c.exec_command.ensures.local in
+    let asm = c.with_command-with_asm.ensures _ _ exec c.asm_command.ensures.app c.asm_command.ensures.local in
+    let dis = c.with_command-with_dis.ensures _ _ asm c.dis_command.ensures.app c.dis_command.ensures.local in
+    let verify = c.with_command-with_verify.ensures _ _ dis c.verify_command.ensures.app c.verify_command.ensures.local in
+    let world = c.with_command-with_world.ensures _ _ verify c.world_command.ensures.app c.world_command.ensures.local in
+    let run = c.with_command-with_run.ensures _ _ world c.run_command.ensures.app c.run_command.ensures.local in
+    let log = c.in_ok-with_log.ensures _ _ run c.log_command.ensures.app c.log_command.ensures.local in
     ap app_of_fields c.version.ensures ∙ ap with_version (ap app_of_fields c.about.ensures ∙ log)

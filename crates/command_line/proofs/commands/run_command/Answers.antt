@@ -1,19 +1,15 @@
-use Rattle.std.proofs.Common.{◌∙◌, ap₂}
-use Rattle.std.proofs.lemmas.Result.{IfOk-weaker}
-use Rattle.clap.specs.Words.{with_rule}
-use Rattle.command_line.proofs.Options.{still_local}
 use Rattle.command_line.proofs.commands.run_command.Goals as goal
 
 pub returns-clause-app : goal.returns-clause-app
 returns-clause-app c =
-    let first = c.in_ok-arg.ensures.shape c.checkpoint_arg.ensures.local ∙ ap₂ with_rule c.in_ok-kept_command.ensures.app c.checkpoint_arg.ensures.rule in
-    let second = c.in_ok-arg-2.ensures.shape c.option_arg-over.ensures.local ∙ ap₂ with_rule first c.option_arg-over.ensures.rule in
-    let third = c.in_ok-arg-3.ensures.shape c.file_arg.ensures.local ∙ ap₂ with_rule second c.file_arg.ensures.rule in
-    IfOk-weaker c.arg-4.result _ _ (λ r h. h.shape c.script_arg.ensures.local ∙ ap₂ with_rule third c.script_arg.ensures.rule) c.arg-4.ensures
+    let with_checkpoint = c.with_arg-with_checkpoint.ensures.app _ _ c.kept_command.ensures.app c.checkpoint_arg.ensures.rule c.checkpoint_arg.ensures.local in
+    let with_over = c.with_arg-with_over.ensures.app _ _ with_checkpoint c.option_arg-over.ensures.rule c.option_arg-over.ensures.local in
+    let with_file = c.with_arg-with_file.ensures.app _ _ with_over c.file_arg.ensures.rule c.file_arg.ensures.local in
+    c.with_arg.ensures.app _ _ with_file c.script_arg.ensures.rule c.script_arg.ensures.local
 
 pub returns-clause-local : goal.returns-clause-local
 returns-clause-local c =
-    let first = still_local _ _ _ c.in_ok-arg.ensures.globals c.in_ok-kept_command.ensures.local c.checkpoint_arg.ensures.local in
-    let second = still_local _ _ _ c.in_ok-arg-2.ensures.globals first c.option_arg-over.ensures.local in
-    let third = still_local _ _ _ c.in_ok-arg-3.ensures.globals second c.file_arg.ensures.local in
-    IfOk-weaker c.arg-4.result _ _ (λ r h. still_local _ _ _ h.globals third c.script_arg.ensures.local) c.arg-4.ensures
+    let with_checkpoint = c.with_arg-with_checkpoint.ensures.local c.kept_command.ensures.local c.checkpoint_arg.ensures.local in
+    let with_over = c.with_arg-with_over.ensures.local with_checkpoint c.option_arg-over.ensures.local in
+    let with_file = c.with_arg-with_file.ensures.local with_over c.file_arg.ensures.local in
+    c.with_arg.ensures.local with_file c.script_arg.ensures.local
