@@ -44,7 +44,7 @@ pub enum SignedSize {
 }
 
 /// The second operand: a number in the slot, or a register.
-#[derive(Clone, Copy, Debug, PartialEq, Eq)]
+#[derive(Clone, Copy)]
 pub enum Source {
     Imm(i32),
     Reg(Register),
@@ -136,7 +136,7 @@ pub enum AtomicOperation {
 /// tables of RFC 9669, sections 3 to 5, allow in this profile. Operands stand in the order in
 /// which each variant names them; an offset of a jump counts slots from the slot behind it, one
 /// of a load or store counts bytes from the address in `base`.
-#[derive(Clone, Copy, Debug, PartialEq, Eq)]
+#[derive(Clone, Copy)]
 pub enum Insn {
     /// `dst = dst operation source`: width, operation, dst, source.
     Alu(Width, Operation, Register, Source),
@@ -171,7 +171,7 @@ pub enum Insn {
 }
 
 /// What stands at a slot of code.
-#[derive(Clone, Copy, Debug, PartialEq, Eq)]
+#[derive(Clone, Copy)]
 pub enum Place {
     Insn(Insn),
     /// The second slot of the wide instruction before it.

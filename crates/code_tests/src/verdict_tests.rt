@@ -5,6 +5,7 @@ use crate::plain_verify::plain_verify;
 use access_slots::decl::Decl;
 use access_slots::slot::{Key, Mode, Slot};
 use bpf_encoding::code::Code;
+use bpf_encoding::encode::encode;
 use bpf_encoding::insn::Register::{R0, R1, R2, R6, R7, R8};
 use bpf_encoding::insn::{
     AtomicOperation, ByteOrder, Condition, Extension, Insn, Operation, OrderWidth, Register,
@@ -72,7 +73,13 @@ fn agree(rt: &impl Abort, alloc: Global, insns: &[Insn], args: u8, number: u32) 
 // This is what both passes find.
 fn both_find(rt: &impl Abort, alloc: Global, insns: &[Insn], decl: Decl, wanted: Found) {
     let found = found_by_both(rt, alloc, insns, decl);
-    is_same(rt, (insns, found), (insns, (wanted, wanted)));
+    let code = Code::from_insns(alloc, insns).expect(rt, "no code");
+    let bytes = encode(alloc, &code).expect(rt, "no bytes");
+    is_same(
+        rt,
+        (bytes.as_slice(), found),
+        (bytes.as_slice(), (wanted, wanted)),
+    );
 }
 
 // Five instructions, of which codes of four slots are made.

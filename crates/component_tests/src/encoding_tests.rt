@@ -86,14 +86,28 @@ const ATOMIC: [(AtomicOperation, u8); 10] = [
     (AtomicOperation::CompareExchange, 0xf1),
 ];
 
+// The bytes of these instructions.
+fn bytes_of(rt: &impl Abort, alloc: Global, insns: &[Insn]) -> Vec<u8> {
+    let code = Code::from_insns(alloc, insns).expect(rt, "no code");
+    encode(alloc, &code).expect(rt, "not encoded")
+}
+
+// The code is one instruction, which has these bytes.
+fn is_spelled(rt: &impl Abort, alloc: Global, code: &Code, bytes: &[u8]) {
+    let Some(Place::Insn(insn)) = code.at(0) else {
+        panic!(rt; "no instruction of {bytes:?}")
+    };
+    is_same(rt, bytes_of(rt, alloc, &[insn]).as_slice(), bytes);
+    is_same(rt, 8 * code.len(), bytes.len());
+}
+
 // The instruction has these bytes.
 fn has_bytes(rt: &impl Abort, alloc: Global, insn: Insn, bytes: &[u8]) {
     let code = Code::from_insns(alloc, &[insn]).expect(rt, "no code");
-    is_same(rt, code.at(0), Some(Place::Insn(insn)));
-    let encoded = encode(alloc, &code).expect(rt, "not encoded");
-    is_same(rt, encoded.as_slice(), bytes);
+    is_spelled(rt, alloc, &code, bytes);
+    is_same(rt, bytes_of(rt, alloc, &[insn]).as_slice(), bytes);
     let decoded = decode(alloc, bytes).expect(rt, "not decoded");
-    is_same(rt, decoded.places(), code.places());
+    is_spelled(rt, alloc, &decoded, bytes);
 }
 
 #[test]
@@ -121,7 +135,7 @@ fn slots(alloc: Global, insns: &[Insn]) -> Result<usize, DecodeFault> {
 fn wide_has_two_slots(rt: &impl Abort, alloc: Global) {
     let code = Code::from_insns(alloc, &[WIDE, Insn::Exit]).expect(rt, "no code");
     is_same(rt, code.len(), 3);
-    is_same(rt, (code.at(1), code.at(3)), (Some(Place::Second), None));
+    assert!(rt; matches!((code.at(1), code.at(3)), (Some(Place::Second), None)));
 }
 
 // No instruction, and one slot more than there may be.
