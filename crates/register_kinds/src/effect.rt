@@ -23,7 +23,7 @@ use bpf_encoding::insn::{
 };
 
 /// What an instruction does to the kinds, and where it goes on.
-#[derive(Clone, Copy, Debug, PartialEq, Eq)]
+#[derive(Clone, Copy)]
 pub enum Effect {
     /// On to the next slot.
     Falls,
