@@ -14,9 +14,13 @@ use Rattle.report_texts.specs.FaultNames.{fault_name}
 use Rattle.verifier.specs.Verdict.{verdict}
 use Rattle.text_commands.specs.Verification.{verdict_line, verification_lines, verification_status}
 
+-- what is said of bytes that aren't code: their first fault, with what is said of its slot
+abbrev pub fault_line : List ℕ → DecodeFault → List ℕ → List ℕ
+fault_line name fault place = (((name ++ codes " ") ++ fault_name fault) ++ place) ++ codes "\n"
+
 abbrev pub line_by_code : Option LineBytes → Result (List Place) DecodeFault → Found → List ℕ
 line_by_code lines (Ok code) f = verdict_line (verdict f.decl code) (slot_text lines f.section) f.name code
-line_by_code lines (Err fault) f = (((f.name ++ codes " ") ++ fault_name fault) ++ fault_text lines f.section fault) ++ codes "\n"
+line_by_code lines (Err fault) f = fault_line f.name fault (fault_text lines f.section fault)
 
 -- its line: as of a procedure of a script, or the first fault of its code; a slot's line of the source, where the file says it, stands at
 -- its end

@@ -1,12 +1,14 @@
 //! `verify`: a line for each procedure of an object file, with the line of its source that is refused.
 
-ghost use Rattle.std.specs.Prelude.{◌≡◌, IfOk, if◌then◌else◌, string_bytes, true};
+ghost use Rattle.std.specs.Prelude.{◌≡◌, ◌++◌, IfOk, OnOk, if◌then◌else◌, string_bytes, true};
 ghost use Rattle.std.specs.List.{flat_map, list_any};
 ghost use Rattle.std.specs.Option.{option_map};
 ghost use Rattle.object_file.specs.LineSections.{line_bytes};
-ghost use Rattle.text_commands.specs.ObjectVerification.{found_line, is_found_refused, IsVerification};
+ghost use Rattle.object_procedures.specs.SourcePlaces.{fault_text};
+ghost use Rattle.text_commands.specs.ObjectVerification.{fault_line, found_line, is_found_refused, IsVerification};
 
 use crate::verification::{Said, verdict_line};
+use bpf_encoding::decode::DecodeFault;
 use object_file::{LineSections, line_sections};
 use object_procedures::finding::{FindError, Found, find};
 use object_procedures::refusal::refusal;
@@ -14,6 +16,26 @@ use object_procedures::source_place::Origin;
 use report_texts::fault_names::fault_name;
 use report_texts::output::Output;
 use std::alloc::{AllocError, Global};
+
+// What is said of a procedure whose bytes aren't code.
+fn fault_line(
+    alloc: Global,
+    name: &str,
+    fault: &DecodeFault,
+    origin: &Origin<'_>,
+) -> Result<Said, AllocError>
+    ensures line { IfOk result (λ r. string_bytes r.line
+        ≡ fault_line name.now fault.now
+        (fault_text (option_map line_bytes origin.now.lines) origin.now.section fault.now)) }
+    ensures refused { IfOk result (λ r. r.is_refused ≡ true) }
+{
+    let place = origin.fault_text(alloc, fault)?;
+    let fault = fault_name(alloc, fault)?;
+    Ok(Said {
+        line: format!(in alloc; "{name} {fault}{place}\n")?,
+        is_refused: true,
+    })
+}
 
 // What is said of a procedure's code, and whether it is refused.
 fn found_line<'a>(
@@ -34,15 +56,26 @@ fn found_line<'a>(
     match code {
         Ok(code) => verdict_line(alloc, name.as_str(), code, decl, &origin),
         Err(fault) => {
-            let name = name.as_str();
-            let place = origin.fault_text(alloc, &fault)?;
-            let fault = fault_name(alloc, &fault)?;
-            Ok(Said {
-                line: format!(in alloc; "{name} {fault}{place}\n")?,
-                is_refused: true,
-            })
+            drop(decl);
+            fault_line(alloc, name.as_str(), &fault, &origin)
         }
     }
+}
+
+// Adds the line of a procedure. Whether it is refused.
+fn add_line<'a>(
+    alloc: Global,
+    table: Option<LineSections<'a>>,
+    found: Found<'a>,
+    lines: &mut String,
+) -> Result<bool, AllocError>
+    ensures line { OnOk result (string_bytes lines.new
+        ≡ string_bytes lines.old ++ found_line (option_map line_bytes table.entry) found.entry) }
+    ensures refused { IfOk result (λ r. r ≡ is_found_refused found.entry) }
+{
+    let said = found_line(alloc, table, found)?;
+    lines.push_str(said.line.as_str())?;
+    Ok(said.is_refused)
 }
 
 // A line for each procedure, and 1 where one is refused.
@@ -57,9 +90,8 @@ fn all_verified<'a>(
     let mut lines = String::new(alloc);
     let mut has_refused = false;
     'found: for procedure in found {
-        let said = found_line(alloc, table, procedure)?;
-        lines.push_str(said.line.as_str())?;
-        has_refused = has_refused || said.is_refused;
+        let is_refused = add_line(alloc, table, procedure, &mut lines)?;
+        has_refused = has_refused || is_refused;
     }
     Ok(Output {
         status: u8::from(has_refused),

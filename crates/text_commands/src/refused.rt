@@ -1,13 +1,13 @@
 //! The procedures of an object file that the verifier refuses, for who mends their C.
 
 use crate::cure::cure_of;
+use crate::verification::refused_at;
 use object_file::{LineSections, line_sections};
 use object_procedures::finding::{FindError, Found, find};
 use object_procedures::source_place::Origin;
 use scripts::name::Name;
 use source_lines::SourceLine;
 use std::alloc::{AllocError, Global};
-use verifier::verify::{VerifyFault, verify};
 
 /// A procedure that the verifier refuses.
 #[derive(Drop)]
@@ -32,17 +32,43 @@ fn refused<'a>(
         section,
     } = found;
     let Ok(code) = code else {
+        drop(decl);
         return Ok(None);
     };
-    match verify(alloc, code, decl) {
-        Ok(_) => Ok(None),
-        Err(VerifyFault::At(slot, violation)) => Ok(Some(RefusedProcedure {
+    match refused_at(alloc, code, decl)? {
+        None => Ok(None),
+        Some((slot, violation)) => Ok(Some(RefusedProcedure {
             name,
             line: Origin { lines, section }.line(slot),
             cure: cure_of(violation),
         })),
-        Err(VerifyFault::Memory) => Err(AllocError),
     }
+}
+
+// Adds a procedure where the verifier refuses it.
+fn add_refused<'a>(
+    alloc: Global,
+    lines: Option<LineSections<'a>>,
+    found: Found<'a>,
+    all: &mut Vec<RefusedProcedure<'a>>,
+) -> Result<(), AllocError> {
+    if let Some(one) = refused(alloc, lines, found)? {
+        all.push(one)?;
+    }
+    Ok(())
+}
+
+// Those of these procedures that the verifier refuses.
+fn all_refused<'a>(
+    alloc: Global,
+    lines: Option<LineSections<'a>>,
+    found: Vec<Found<'a>>,
+) -> Result<Vec<RefusedProcedure<'a>>, AllocError> {
+    let mut all = Vec::new(alloc);
+    for procedure in found {
+        add_refused(alloc, lines, procedure, &mut all)?;
+    }
+    Ok(all)
 }
 
 /// The procedures of an object file that the verifier refuses, in the order of its sections; none of a file that is no
@@ -51,17 +77,9 @@ pub fn refused_procedures<'a>(
     alloc: Global,
     file: &'a [u8],
 ) -> Result<Vec<RefusedProcedure<'a>>, AllocError> {
-    let mut all = Vec::new(alloc);
-    let found = match find(alloc, file) {
-        Ok(found) => found,
-        Err(FindError::Refused(_)) => return Ok(all),
-        Err(FindError::Memory) => return Err(AllocError),
-    };
-    let lines = line_sections(alloc, file)?;
-    for procedure in found {
-        if let Some(one) = refused(alloc, lines, procedure)? {
-            all.push(one)?;
-        }
+    match find(alloc, file) {
+        Ok(found) => all_refused(alloc, line_sections(alloc, file)?, found),
+        Err(FindError::Refused(_)) => Ok(Vec::new(alloc)),
+        Err(FindError::Memory) => Err(AllocError),
     }
-    Ok(all)
 }

@@ -1,6 +1,6 @@
 //! `verify`: a line for each procedure of a script.
 
-ghost use Rattle.std.specs.Prelude.{◌≡◌, IfOk, if◌then◌else◌, is_some, string_bytes};
+ghost use Rattle.std.specs.Prelude.{◌≡◌, ◌++◌, IfOk, OnOk, if◌then◌else◌, is_some, string_bytes};
 ghost use Rattle.std.specs.List.{flat_map, list_any};
 ghost use Rattle.std.specs.Option.{option_map};
 ghost use Rattle.object_file.specs.LineSections.{line_bytes};
@@ -11,6 +11,7 @@ ghost use Rattle.text_commands.specs.Verification.{verdict_line, procedure_line,
 use access_slots::decl::Decl;
 use bpf_encoding::code::Code;
 use object_procedures::source_place::Origin;
+use register_kinds::kind::Violation;
 use report_texts::fault_names::violation_name;
 use report_texts::output::Output;
 use report_texts::script_refusal::refusal;
@@ -27,6 +28,21 @@ pub(crate) struct Said {
     pub is_refused: bool,
 }
 
+// What the verifier refuses first of code, and at which slot.
+pub(crate) fn refused_at(
+    alloc: Global,
+    code: Code,
+    decl: Decl,
+) -> Result<Option<(usize, Violation)>, AllocError>
+    ensures { IfOk result (λ r. r ≡ verdict decl code) }
+{
+    match verify(alloc, code, decl) {
+        Ok(_) => Ok(None),
+        Err(VerifyFault::At(slot, violation)) => Ok(Some((slot, violation))),
+        Err(VerifyFault::Memory) => Err(AllocError),
+    }
+}
+
 /// What the verifier says of code under this name.
 pub(crate) fn verdict_line(
     alloc: Global,
@@ -40,12 +56,12 @@ pub(crate) fn verdict_line(
     ensures refused { IfOk result (λ r. r.is_refused ≡ is_some (verdict decl code)) }
 {
     let slots = code.len();
-    match verify(alloc, code, decl) {
-        Ok(_) => Ok(Said {
+    match refused_at(alloc, code, decl)? {
+        None => Ok(Said {
             line: format!(in alloc; "{name} accepted {slots}\n")?,
             is_refused: false,
         }),
-        Err(VerifyFault::At(slot, violation)) => {
+        Some((slot, violation)) => {
             let why = violation_name(violation);
             let place = origin.slot_text(alloc, slot)?;
             Ok(Said {
@@ -53,7 +69,6 @@ pub(crate) fn verdict_line(
                 is_refused: true,
             })
         }
-        Err(VerifyFault::Memory) => Err(AllocError),
     }
 }
 
@@ -70,6 +85,16 @@ fn procedure_line(alloc: Global, procedure: Procedure) -> Result<Said, AllocErro
     )
 }
 
+// Adds the line of a procedure. Whether it is refused.
+fn add_line(alloc: Global, procedure: Procedure, lines: &mut String) -> Result<bool, AllocError>
+    ensures line { OnOk result (string_bytes lines.new ≡ string_bytes lines.old ++ procedure_line procedure.entry) }
+    ensures refused { IfOk result (λ r. r ≡ is_refused procedure.entry) }
+{
+    let said = procedure_line(alloc, procedure)?;
+    lines.push_str(said.line.as_str())?;
+    Ok(said.is_refused)
+}
+
 // A line for each procedure, and 1 where one is refused.
 fn verified(alloc: Global, procedures: Vec<Procedure>) -> Result<Output, AllocError>
     ensures lines { IfOk result (λ r. string_bytes r.lines ≡ flat_map procedure_line procedures.entry.items) }
@@ -78,9 +103,8 @@ fn verified(alloc: Global, procedures: Vec<Procedure>) -> Result<Output, AllocEr
     let mut lines = String::new(alloc);
     let mut has_refused = false;
     'procedures: for procedure in procedures {
-        let said = procedure_line(alloc, procedure)?;
-        lines.push_str(said.line.as_str())?;
-        has_refused = has_refused || said.is_refused;
+        let is_refused = add_line(alloc, procedure, &mut lines)?;
+        has_refused = has_refused || is_refused;
     }
     Ok(Output {
         status: u8::from(has_refused),
