@@ -770,7 +770,8 @@ static inline mz_code mz_retake(mz_tc *tc, uint64_t txn, mz_asked *asked) {
 /* ---- a log that begins anew, so that it doesn't grow for ever */
 
 /* The low-water mark: each number up to it is answered. Tell it to your storage before its checkpoint: then
- * it needn't know numbers up to it any more. */
+ * it needn't know numbers up to it any more. Your log has to have those answers for good by then (mz_log_sync): else numbers
+ * that are open in it are old there, and never end. */
 static inline uint64_t mz_low_water(mz_tc *tc) {
     mz_frame *f;
     if (mz_enter(tc, MZ_KIND_TC, 1, &f) != MZ_OK) return 0;

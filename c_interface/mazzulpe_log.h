@@ -5,6 +5,9 @@
  *     mz_log_sync(log, until)                   without it: before a wire is carried, and before anyone is told
  *     mz_log_close(log)
  *
+ * mz_log_write gathers in memory; mz_log_sync puts all that is gathered into the file at once, and syncs it. mz_log_flush in its
+ * place leaves the sync out: what is in the file then outlives this process, and not a loss of power.
+ *
  * An engine that does so, and is killed anywhere, comes back to what it has carried and told. Behind mz_log_open carry
  * on as behind mz_recover: mz_redo of each data component that is down, mz_open_from, mz_retake, mz_run.
  *
@@ -39,7 +42,7 @@ extern "C" {
 /* Where a log's bytes are kept. Each function answers 0, or something else where it failed, which is final. */
 typedef struct {
     void *context;
-    /* Puts these bytes behind the others. */
+    /* Puts these bytes behind the others. Of these three one is called at a time, by any thread. */
     int (*append)(void *context, const void *bytes, size_t count);
     /* What was put there outlives a loss of power from now on. */
     int (*sync)(void *context);
@@ -57,11 +60,12 @@ typedef struct { uint64_t events, dropped, place; } mz_log_found;
 typedef struct {
     mz_tc *tc;
     mz_device device;
-    uint8_t *room;             /* what is handed out at once */
-    size_t size;
-    uint64_t written, synced;  /* bytes that the device got since it was opened; so many of them stay */
-    int failed, busy;          /* busy: a thread is in the device's sync or replace */
-    pthread_mutex_t lock;      /* of synced and busy; nobody holds it for long */
+    uint8_t *room, *other;     /* what is gathered; what the device gets meanwhile, or did */
+    size_t size, other_size, gathered;
+    uint64_t written, put, synced; /* bytes since it was opened: handed out; at the device; so many of them stay */
+    uint64_t appends, syncs;   /* of the device */
+    int failed, busy;          /* busy: a thread is in the device */
+    pthread_mutex_t lock;      /* of all this but failed; nobody holds it for long */
     pthread_cond_t done;       /* busy is over */
 } mz_log;
 
@@ -70,55 +74,87 @@ static inline mz_code mz_log_failed(mz_log *log) {
     return MZ_LOG_FAILED;
 }
 
-/* All that is prepared, in log->room. */
+/* All that is prepared, behind what is gathered. */
 static inline mz_code mz_log_take(mz_log *log, size_t *count) {
     uint64_t prepared = 0;
     size_t piece = 0;
     *count = 0;
     mz_code c = mz_file_ahead(log->tc, &prepared);
     if (c != MZ_OK) return c;
-    if (prepared + 256 > log->size) {
-        size_t size = (size_t)prepared * 2 + 256;
+    if (log->gathered + prepared + 256 > log->size) {
+        size_t size = (log->gathered + (size_t)prepared) * 2 + 256;
         uint8_t *room = (uint8_t *)realloc(log->room, size);
         if (!room) return MZ_MEMORY;
         log->room = room;
         log->size = size;
     }
     while (c == MZ_OK && *count < prepared) {
-        c = mz_file_bytes(log->tc, log->room + *count, &piece);
+        c = mz_file_bytes(log->tc, log->room + log->gathered + *count, &piece);
         *count += piece;
     }
     return c;
 }
 
-/* Whether it is a file from its first frame on, which has the number 0. */
-static inline int mz_log_begins(const mz_log *log, size_t count) { return count >= 8 && !mz_little(log->room, 8); }
-
-static inline mz_code mz_log_append(mz_log *log, size_t count) {
-    if (log->device.append(log->device.context, log->room, count)) return mz_log_failed(log);
-    __atomic_store_n(&log->written, log->written + count, __ATOMIC_SEQ_CST);
-    return MZ_OK;
+/* The lock is held, and the device nobody's: let go while this thread is in it. */
+static inline void mz_log_enter(mz_log *log) {
+    log->busy = 1;
+    pthread_mutex_unlock(&log->lock);
 }
 
-/* Behind the device's sync or replace, which failed or made so much stay: whoever waits looks again. */
-static inline mz_code mz_log_done(mz_log *log, int failed, uint64_t synced) {
+/* Behind the device: whoever waits looks again, once the lock is let go. */
+static inline mz_code mz_log_leave(mz_log *log, int failed) {
     mz_code c = failed ? mz_log_failed(log) : MZ_OK;
     pthread_mutex_lock(&log->lock);
-    if (c == MZ_OK) log->synced = synced;
     log->busy = 0;
     pthread_cond_broadcast(&log->done);
-    pthread_mutex_unlock(&log->lock);
     return c;
 }
 
-static inline mz_code mz_log_replace(mz_log *log, size_t count) {
-    pthread_mutex_lock(&log->lock);
+/* These bytes are a file from its first frame on, which has the number 0, and take the place of all. The lock is held. */
+static inline mz_code mz_log_replace(mz_log *log, const uint8_t *bytes, size_t count) {
     while (log->busy) pthread_cond_wait(&log->done, &log->lock);
-    log->busy = 1;
+    log->gathered = 0;
+    mz_log_enter(log);
+    mz_code c = mz_log_leave(log, log->device.replace(log->device.context, bytes, count));
+    log->written += count;
+    log->syncs++;
+    if (c == MZ_OK) log->put = log->synced = log->written;
+    return c;
+}
+
+/* Puts all that is gathered into the device, and syncs it where that is wanted. The lock is held, and the device nobody's. */
+static inline mz_code mz_log_put_out(mz_log *log, int syncs) {
+    uint8_t *bytes = log->room;
+    size_t count = log->gathered, size = log->size;
+    uint64_t all = log->written;
+    log->room = log->other;
+    log->size = log->other_size;
+    log->other = bytes;
+    log->other_size = size;
+    log->gathered = 0;
+    mz_log_enter(log);
+    int failed = count && log->device.append(log->device.context, bytes, count);
+    if (!failed && syncs) failed = log->device.sync(log->device.context);
+    mz_code c = mz_log_leave(log, failed);
+    log->appends += count > 0;
+    log->syncs += (uint64_t)syncs;
+    if (c == MZ_OK) log->put = all;
+    if (c == MZ_OK && syncs) log->synced = all;
+    return c;
+}
+
+/* One thread is in the device at a time; who waits finds its own done by that, or does the next. */
+static inline mz_code mz_log_reach(mz_log *log, uint64_t until, int syncs) {
+    int failed = 0;
+    mz_code c = MZ_OK;
+    if (!log) return MZ_BAD_ARGUMENT;
+    pthread_mutex_lock(&log->lock);
+    const uint64_t *reached = syncs ? &log->synced : &log->put;
+    while (!(failed = __atomic_load_n(&log->failed, __ATOMIC_SEQ_CST)) && *reached < until && log->busy)
+        pthread_cond_wait(&log->done, &log->lock);
+    if (!failed && *reached < until) c = mz_log_put_out(log, syncs);
     pthread_mutex_unlock(&log->lock);
-    int failed = log->device.replace(log->device.context, log->room, count);
-    __atomic_store_n(&log->written, log->written + count, __ATOMIC_SEQ_CST);
-    return mz_log_done(log, failed, log->written);
+    return failed ? MZ_LOG_FAILED : c;
 }
 
 /* ---- a log over a device */
@@ -135,43 +171,48 @@ static inline mz_log *mz_log_over(mz_tc *tc, const mz_device *device) {
     return NULL;
 }
 
-/* Gives it back, with the device. What was written and not synced may be lost. */
+/* Gives it back, with the device, which gets what is gathered. What was written and not synced may be lost. */
 static inline void mz_log_close(mz_log *log) {
     if (!log) return;
+    mz_log_reach(log, log->written, 0);
     if (log->device.close) log->device.close(log->device.context);
     pthread_cond_destroy(&log->done);
     pthread_mutex_destroy(&log->lock);
     free(log->room);
+    free(log->other);
     free(log);
 }
 
-/* Writes what has happened, under the lock of the transaction component. mz_log_sync of *until makes it stay, with all
- * that was written before. Behind mz_checkpoint a new file takes the old one's place, which takes two syncs. MZ_LOG_FAILED;
- * MZ_MEMORY, MZ_OTHER_PROCEDURES, MZ_FRAMES_SPENT: nothing was written, and nothing that has happened may be carried or told. */
+/* Gathers what has happened, under the lock of the transaction component. mz_log_sync of *until makes it stay, with all
+ * that was written before. Where a megabyte is gathered the device gets it. Behind mz_checkpoint a new file takes the old
+ * one's place, which takes two syncs. MZ_LOG_FAILED; MZ_MEMORY, MZ_OTHER_PROCEDURES, MZ_FRAMES_SPENT: nothing was written,
+ * and nothing that has happened may be carried or told. */
 static inline mz_code mz_log_write(mz_log *log, uint64_t *until) {
+    enum { MOST = 1 << 20 };
     size_t count;
     if (!log || !until) return MZ_BAD_ARGUMENT;
     if (__atomic_load_n(&log->failed, __ATOMIC_SEQ_CST)) return MZ_LOG_FAILED;
+    pthread_mutex_lock(&log->lock);
     mz_code c = mz_log_take(log, &count);
-    if (c == MZ_OK && count) c = mz_log_begins(log, count) ? mz_log_replace(log, count) : mz_log_append(log, count);
+    const uint8_t *bytes = count ? log->room + log->gathered : NULL;
+    if (c == MZ_OK && count >= 8 && !mz_little(bytes, 8)) {
+        c = mz_log_replace(log, bytes, count);
+    } else if (c == MZ_OK) {
+        log->gathered += count;
+        log->written += count;
+    }
     *until = log->written;
-    return c;
+    int is_much = log->gathered > MOST;
+    pthread_mutex_unlock(&log->lock);
+    return c == MZ_OK && is_much ? mz_log_reach(log, *until, 0) : c;
 }
 
-/* What mz_log_write has written up to there stays. Call it without the lock of the transaction component. One thread syncs at
- * a time, what all have written by then; who waits finds its own done by that, or does the next. MZ_LOG_FAILED. */
-static inline mz_code mz_log_sync(mz_log *log, uint64_t until) {
-    int is_ours = 0, failed = 0;
-    if (!log) return MZ_BAD_ARGUMENT;
-    pthread_mutex_lock(&log->lock);
-    while (!(failed = __atomic_load_n(&log->failed, __ATOMIC_SEQ_CST)) && log->synced < until && log->busy)
-        pthread_cond_wait(&log->done, &log->lock);
-    if (!failed && log->synced < until) is_ours = log->busy = 1;
-    pthread_mutex_unlock(&log->lock);
-    if (!is_ours) return failed ? MZ_LOG_FAILED : MZ_OK;
-    uint64_t all = __atomic_load_n(&log->written, __ATOMIC_SEQ_CST);
-    return mz_log_done(log, log->device.sync(log->device.context), all);
-}
+/* What mz_log_write has written up to there stays, with all that others have written by now. Call it without the lock of the
+ * transaction component. MZ_LOG_FAILED. */
+static inline mz_code mz_log_sync(mz_log *log, uint64_t until) { return mz_log_reach(log, until, 1); }
+
+/* The same without the sync: the device has it, so that it outlives this process. MZ_LOG_FAILED. */
+static inline mz_code mz_log_flush(mz_log *log, uint64_t until) { return mz_log_reach(log, until, 0); }
 
 /* Writes what has happened and makes it stay. */
 static inline mz_code mz_log_keep(mz_log *log) {

@@ -37,15 +37,13 @@ static uint64_t microseconds(void) {
 
 /* ---- calls, under the lock */
 
-/* What has happened is in the log's file, and on the disk, without the lock, where that is wanted. */
+/* What has happened is in the log's file, and on the disk where that is wanted, without the lock. */
 static void write_ahead(client *e) {
     uint64_t until;
     mz_code c = mz_log_write(e->log, &until);
-    if (c == MZ_OK && e->plan->synced) {
-        pthread_mutex_unlock(&e->lock);
-        c = mz_log_sync(e->log, until);
-        pthread_mutex_lock(&e->lock);
-    }
+    pthread_mutex_unlock(&e->lock);
+    if (c == MZ_OK) c = e->plan->synced ? mz_log_sync(e->log, until) : mz_log_flush(e->log, until);
+    pthread_mutex_lock(&e->lock);
     if (c != MZ_OK) die("the log", c);
 }
 
@@ -141,6 +139,7 @@ static int is_kept(client *e, uint64_t mark) {
 /* Behind the closed gate. 0 where a data component is away: the log goes on as it was. */
 static int begins_anew(client *e) {
     uint64_t mark = mz_low_water(e->tc);
+    write_ahead(e); /* before storage is told of it */
     mz_code c = is_kept(e, mark) ? mz_log_checkpoint(e->log, mark) : MZ_BEHIND;
     if (c == MZ_LOG_FAILED) die("the log", c);
     return c == MZ_OK;

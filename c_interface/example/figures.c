@@ -1,8 +1,10 @@
 /* How many calls a second through the C interface, by one thread: figures CALLS [FOLDER]
  *
  * An amount moved between two of 1,000 records. The storage is an array of this program; a data component
- * of the library; and with FOLDER two SQLite files, none of them synced to the disk, beside SQLite alone
- * that does the same transfers over the same two files, attached, each a transaction of its own. */
+ * of the library; and with FOLDER the array with a log there, which isn't synced: each wire and each end is written, and put
+ * into the file behind 64 transfers, or each at once; and two SQLite files, none of them synced to the disk, beside SQLite
+ * alone that does the same transfers over the same two files, attached, each a transaction of its own. */
+#include "mazzulpe_log.h"
 #include "mazzulpe_object.h"
 #ifdef WITH_SQLITE
 #include "sqlite_dc.h"
@@ -10,7 +12,7 @@
 #include <stdio.h>
 #include <time.h>
 
-enum { RECORDS = 1000, FULL = 1000000 };
+enum { RECORDS = 1000, FULL = 1000000, TOGETHER = 64 };
 
 static uint8_t values[2][RECORDS][MZ_VALUE];
 static mz_dc *dcs[2];
@@ -35,6 +37,23 @@ static mz_carried by_array(void *context, const mz_wire *w, mz_reply *r, mz_news
     memcpy(r->value, at, MZ_VALUE);
     if (w->op != MZ_READ) memcpy(at, w->value, MZ_VALUE);
     return MZ_REPLIED;
+}
+
+/* A log, and after how many writes it is put into its file. */
+typedef struct { mz_log *log; int each, left; } kept;
+
+static void keep(kept *k) {
+    uint64_t until;
+    if (mz_log_write(k->log, &until) != MZ_OK) exit(9);
+    if (--k->left > 0) return;
+    k->left = k->each;
+    if (mz_log_flush(k->log, until) != MZ_OK) exit(9);
+}
+
+static mz_carried by_logged_array(void *context, const mz_wire *w, mz_reply *r, mz_news *news) {
+    const mz_wire mine = *w;
+    keep((kept *)context);
+    return by_array(NULL, &mine, r, news);
 }
 
 static mz_carried by_library(void *context, const mz_wire *w, mz_reply *r, mz_news *news) {
@@ -82,6 +101,39 @@ static void timed(const char *what, long count, mz_carry *carry, void *context) 
     }
     said(what, count, seconds() - began);
     mz_tc_free(tc);
+}
+
+/* In one run with the array alone, turn by turn, so that both have the same machine. */
+static void logged_timed(const char *folder, long count) {
+    static const int each[] = {0, 5 * TOGETHER, 1};
+    static const char *const what[] = {"the array, in turns", "with a log, put out behind 64", "with a log, each write put out"};
+    enum { KINDS = 3, TURNS = 20 };
+    double took[KINDS] = {0};
+    char path[512];
+    kept k[KINDS] = {{0}};
+    mz_tc *tc[KINDS];
+    uint64_t move, deposits[2], x = 88172645463325252ull, args[3];
+    for (int i = 0; i < KINDS; i++) {
+        tc[i] = loaded(&move, deposits);
+        snprintf(path, sizeof path, "%s/figures_%d.log", folder, i);
+        k[i].each = each[i];
+        if (each[i] && mz_log_open(tc[i], path, &k[i].log, NULL) != MZ_OK) exit(9);
+    }
+    for (int turn = 0; turn < TURNS * KINDS; turn++) {
+        int i = turn % KINDS;
+        double began = seconds();
+        for (long n = 0; n < count / TURNS; n++) {
+            drawn(&x, args);
+            call(tc[i], move, args, 3, each[i] ? by_logged_array : by_array, &k[i]);
+            if (each[i]) keep(&k[i]);
+        }
+        took[i] += seconds() - began;
+    }
+    for (int i = 0; i < KINDS; i++) {
+        said(what[i], count, took[i]);
+        mz_log_close(k[i].log);
+        mz_tc_free(tc[i]);
+    }
 }
 
 #ifdef WITH_SQLITE
@@ -160,13 +212,12 @@ int main(int argc, char **argv) {
     }
     timed("an array of the program", count, by_array, NULL);
     timed("the library's data components", count < 200000 ? count : 200000, by_library, NULL);
+    if (argc > 2) logged_timed(argv[2], count);
 #ifdef WITH_SQLITE
     if (argc > 2) {
         sqlite_timed(argv[2], count / 20);
         sqlite_alone(argv[2], count / 20);
     }
-#else
-    (void)argv;
 #endif
     mz_tc *tc = mz_tc_new(1, &c);
     double began = seconds();

@@ -222,22 +222,29 @@ static void not_opened(const content *whole) {
 
 /* ---- devices: of memory, that fail at their nth call, and whose syncs are counted */
 
-typedef struct { long calls, fails_at, syncs; size_t kept; long wait; } device;
+typedef struct { long calls, fails_at, syncs; size_t kept; long wait, inside; } device;
 
 static int fails(device *d) { return __atomic_add_fetch(&d->calls, 1, __ATOMIC_SEQ_CST) == d->fails_at; }
+
+/* One thread is in it at a time. */
+static int entered(device *d) {
+    SEEN(__atomic_add_fetch(&d->inside, 1, __ATOMIC_SEQ_CST) == 1);
+    if (d->wait) usleep((unsigned)d->wait / 2);
+    SEEN(__atomic_sub_fetch(&d->inside, 1, __ATOMIC_SEQ_CST) == 0);
+    return fails(d);
+}
 
 static int put(void *context, const void *bytes, size_t count) {
     device *d = (device *)context;
     (void)bytes;
     d->kept += count;
-    return fails(d);
+    return entered(d);
 }
 
 static int sync_all(void *context) {
     device *d = (device *)context;
     d->syncs++;
-    if (d->wait) usleep((unsigned)d->wait);
-    return fails(d);
+    return entered(d);
 }
 
 static void over(bank *b, device *d) {
@@ -254,7 +261,7 @@ static void over(bank *b, device *d) {
 /* Behind the first failure each call is refused, and nothing more reaches the device. */
 static void device_that_fails(void) {
     for (long at = 1, ended = 0; !ended; at++) {
-        device d = {0, at, 0, 0, 0};
+        device d = {0, at, 0, 0, 0, 0};
         bank b;
         uint64_t until;
         int call = 0;
@@ -266,6 +273,31 @@ static void device_that_fails(void) {
         SEEN(ended || (mz_log_checkpoint(b.log, 0) == MZ_LOG_FAILED && d.calls == at));
         closed(&b);
     }
+}
+
+/* What is written is gathered, and reaches the device at once; by mz_log_flush without a sync. */
+static void gathered(void) {
+    device d = {0, 0, 0, 0, 0, 0};
+    bank b;
+    uint64_t until[4] = {0, 0, 0, 0}, procedure = 0, txn = 0;
+    const uint64_t args[] = {1, 1};
+    over(&b, &d);
+    SEEN(mz_log_keep(b.log) == MZ_OK && d.calls == 1 && d.syncs == 0 && mz_find(b.tc, "deposit_here", &procedure) == MZ_OK);
+    for (int i = 0; i < 4; i++) {
+        mz_asked asked;
+        const uint64_t own[] = {(uint64_t)i, args[1]};
+        SEEN(mz_admit(b.tc, procedure, own, 2, &txn, NULL, NULL) == MZ_OK && mz_ask(b.tc, txn, &asked) == MZ_OK);
+        SEEN(mz_log_write(b.log, &until[i]) == MZ_OK && d.calls == 1 && (!i || until[i] > until[i - 1]));
+    }
+    SEEN(mz_log_flush(b.log, until[0]) == MZ_OK && d.calls == 2 && d.syncs == 0 && d.kept == until[3]);
+    SEEN(mz_log_flush(b.log, until[3]) == MZ_OK && d.calls == 2);
+    SEEN(mz_log_sync(b.log, until[1]) == MZ_OK && d.calls == 3 && d.syncs == 1);
+    SEEN(mz_log_sync(b.log, until[3]) == MZ_OK && d.calls == 3);
+    SEEN(mz_admit(b.tc, procedure, (const uint64_t[]){9, 1}, 2, &txn, NULL, NULL) == MZ_OK && mz_log_keep(b.log) == MZ_OK);
+    SEEN(d.calls == 5 && d.syncs == 2);
+    SEEN(mz_admit(b.tc, procedure, (const uint64_t[]){10, 1}, 2, &txn, NULL, NULL) == MZ_OK && mz_log_write(b.log, &until[0]) == MZ_OK);
+    closed(&b);
+    SEEN(d.calls == 6 && d.syncs == 2 && d.kept == until[0]);
 }
 
 /* ---- threads that share syncs: each deposit waits for three, of SYNC microseconds */
@@ -282,7 +314,7 @@ static void *deposits(void *context) {
 }
 
 static void shared_syncs(void) {
-    device d = {0, 0, 0, 0, SYNC};
+    device d = {0, 0, 0, 0, SYNC, 0};
     pthread_mutex_t lock = PTHREAD_MUTEX_INITIALIZER;
     pthread_t threads[THREADS];
     worker workers[THREADS];
@@ -317,6 +349,7 @@ int main(int count, char **words) {
     }
     not_opened(&whole);
     device_that_fails();
+    gathered();
     shared_syncs();
     printf("files cut and changed, one place in %zu\n", step);
     fflush(stdout);

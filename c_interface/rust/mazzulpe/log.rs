@@ -3,7 +3,7 @@
 //! ```text
 //! let (log, found) = Log::open(&mut tc, Path::new("bank.log"))?; // behind the procedures
 //! let until = log.write(&mut tc)?;  // under the lock of tc: behind the calls that ask, answer and end
-//! log.sync(until)?;                 // without it: before a wire is carried, and before anyone is told
+//! log.sync(until)?;                 // without it: before a wire is carried, and before anyone is told; puts out all at once
 //! ```
 
 use super::{LOG_FAILED, LOG_IN_USE, MEMORY, NO_LOG, NO_SESSION, Refusal, Tc};
@@ -12,13 +12,15 @@ use std::fs::{File, OpenOptions, TryLockError, rename};
 use std::io::{self, Read, Write};
 use std::os::unix::fs::MetadataExt;
 use std::path::{Path, PathBuf};
-use std::sync::atomic::{AtomicBool, AtomicU64, Ordering::SeqCst};
+use std::sync::atomic::{AtomicBool, Ordering::SeqCst};
 use std::sync::{Arc, Condvar, Mutex, MutexGuard};
 
 /// So many bytes a log's first frame has at least.
 const FIRST_FRAME: usize = 88;
+/// Where so many are gathered the device gets them.
+const MOST: usize = 1 << 20;
 
-/// Where a log's bytes are kept. What fails once is final.
+/// Where a log's bytes are kept. What fails once is final. One function is called at a time, by any thread.
 pub trait Device {
     /// Puts these bytes behind the others.
     fn append(&self, bytes: &[u8]) -> io::Result<()>;
@@ -55,29 +57,32 @@ pub struct Found {
     pub dropped: u64,
 }
 
-/// How far the device is; `busy`: a thread is in its sync or replace.
+/// What is gathered, and how many bytes were handed out, are at the device, and stay there; `busy`: a thread is in the device.
+#[derive(Default)]
 struct Progress {
+    gathered: Vec<u8>,
+    written: u64,
+    put: u64,
     synced: u64,
     busy: bool,
 }
 
 pub struct Log<D: Device = LogFile> {
     device: D,
-    written: AtomicU64,
     failed: AtomicBool,
     progress: Mutex<Progress>,
     done: Condvar,
 }
 
-/// The bytes that are prepared.
-fn prepared(tc: &mut Tc) -> Result<Vec<u8>, Refusal> {
+/// Puts the bytes that are prepared behind these.
+fn prepared(tc: &mut Tc, bytes: &mut Vec<u8>) -> Result<(), Refusal> {
     let count = tc.file_ahead()? as usize;
-    let mut bytes = Vec::new();
+    let all = bytes.len() + count;
     bytes.try_reserve(count + 256).map_err(|_| MEMORY)?;
-    while bytes.len() < count {
-        tc.file_bytes(&mut bytes)?;
+    while bytes.len() < all {
+        tc.file_bytes(bytes)?;
     }
-    Ok(bytes)
+    Ok(())
 }
 
 impl<D: Device> Log<D> {
@@ -85,9 +90,8 @@ impl<D: Device> Log<D> {
     pub fn over(device: D) -> Log<D> {
         Log {
             device,
-            written: AtomicU64::new(0),
             failed: AtomicBool::new(false),
-            progress: Mutex::new(Progress { synced: 0, busy: false }),
+            progress: Mutex::new(Progress::default()),
             done: Condvar::new(),
         }
     }
@@ -108,53 +112,77 @@ impl<D: Device> Log<D> {
         Ok(answered?)
     }
 
-    /// Behind the device's sync or replace: whoever waits looks again.
-    fn ended(&self, answered: io::Result<()>, synced: u64) -> Result<(), LogError> {
+    /// Behind the device: whoever waits looks again.
+    fn ended(&self, answered: io::Result<()>, put: u64, synced: Option<u64>) -> Result<(), LogError> {
         let seen = self.seen(answered);
         let mut progress = self.locked();
         if seen.is_ok() {
-            progress.synced = synced;
+            progress.put = put;
+            progress.synced = synced.unwrap_or(progress.synced);
         }
         progress.busy = false;
         self.done.notify_all();
         seen
     }
 
-    fn replace(&self, bytes: &[u8], written: u64) -> Result<(), LogError> {
+    /// These bytes are a file from its first frame on, and take the place of all, what is gathered too.
+    fn replace(&self, bytes: &[u8]) -> Result<u64, LogError> {
         let mut progress = self.done.wait_while(self.locked(), |it| it.busy).expect("nobody panics under it");
         progress.busy = true;
+        progress.gathered.clear();
+        progress.written += bytes.len() as u64;
+        let written = progress.written;
         drop(progress);
-        self.ended(self.device.replace(bytes), written)
-    }
-
-    /// Writes what has happened, under the lock of the transaction component; [`Log::sync`] of the number makes it stay. Behind a
-    /// checkpoint a new file takes the old one's place.
-    pub fn write(&self, tc: &mut Tc) -> Result<u64, LogError> {
-        self.is_whole()?;
-        let bytes = prepared(tc)?;
-        let written = self.written.load(SeqCst) + bytes.len() as u64;
-        if bytes.starts_with(&[0; 8]) {
-            self.replace(&bytes, written)?;
-        } else if !bytes.is_empty() {
-            self.seen(self.device.append(&bytes))?;
-        }
-        self.written.store(written, SeqCst);
+        self.ended(self.device.replace(bytes), written, Some(written))?;
         Ok(written)
     }
 
-    /// What was written up to there stays. One thread syncs at a time, what all have written by then; who waits finds its own
-    /// done by that, or does the next.
-    pub fn sync(&self, until: u64) -> Result<(), LogError> {
-        let wait = |it: &mut Progress| it.busy && it.synced < until && !self.failed.load(SeqCst);
+    /// Gathers what has happened, under the lock of the transaction component; [`Log::sync`] of the number makes it stay. Behind a
+    /// checkpoint a new file takes the old one's place.
+    pub fn write(&self, tc: &mut Tc) -> Result<u64, LogError> {
+        self.is_whole()?;
+        let mut progress = self.locked();
+        let before = progress.gathered.len();
+        prepared(tc, &mut progress.gathered)?;
+        if progress.gathered[before..].starts_with(&[0; 8]) {
+            let bytes = progress.gathered.split_off(before);
+            drop(progress);
+            return self.replace(&bytes);
+        }
+        progress.written += (progress.gathered.len() - before) as u64;
+        let (written, is_much) = (progress.written, progress.gathered.len() > MOST);
+        drop(progress);
+        if is_much {
+            self.flush(written)?;
+        }
+        Ok(written)
+    }
+
+    fn reach(&self, until: u64, syncs: bool) -> Result<(), LogError> {
+        let has_reached = |it: &Progress| until <= if syncs { it.synced } else { it.put };
+        let wait = |it: &mut Progress| it.busy && !has_reached(it) && !self.failed.load(SeqCst);
         let mut progress = self.done.wait_while(self.locked(), wait).expect("nobody panics under it");
         self.is_whole()?;
-        if progress.synced >= until {
+        if has_reached(&progress) {
             return Ok(());
         }
         progress.busy = true;
+        let (bytes, all) = (std::mem::take(&mut progress.gathered), progress.written);
         drop(progress);
-        let all = self.written.load(SeqCst);
-        self.ended(self.device.sync(), all)
+        let put = if bytes.is_empty() { Ok(()) } else { self.device.append(&bytes) };
+        let answered = if syncs { put.and_then(|()| self.device.sync()) } else { put };
+        self.ended(answered, all, syncs.then_some(all))
+    }
+
+    /// What was written up to there stays, with all that others have written by now. One thread is in the device at a time; who
+    /// waits finds its own done by that, or does the next.
+    pub fn sync(&self, until: u64) -> Result<(), LogError> {
+        self.reach(until, true)
+    }
+
+    /// The same without the sync: the device has it, so that it outlives this process.
+    pub fn flush(&self, until: u64) -> Result<(), LogError> {
+        self.reach(until, false)
     }
 
     /// Writes what has happened and makes it stay.
@@ -168,6 +196,14 @@ impl<D: Device> Log<D> {
         self.is_whole()?;
         tc.checkpoint(kept)?;
         self.write(tc).map(|_| ())
+    }
+}
+
+impl<D: Device> Drop for Log<D> {
+    /// The device gets what is gathered.
+    fn drop(&mut self) {
+        let written = self.locked().written;
+        let _too_late_to_tell = self.flush(written);
     }
 }
 
