@@ -14,7 +14,7 @@ use bpf_asm::cut::{before, split_word, trim};
 use std::alloc::Global;
 
 /// What is wrong with a line that is bad, or that has a bad number.
-#[derive(Clone, Copy, Debug, PartialEq, Eq)]
+#[derive(Clone, Copy)]
 pub enum Cause<'a> {
     /// Lines of scripts don't begin with this word.
     UnknownWord(&'a [u8]),

@@ -34,7 +34,7 @@ pub struct Procedure<'a> {
 }
 
 /// A call of a procedure of the script.
-#[derive(Debug, Drop)]
+#[derive(Drop)]
 pub struct Call {
     /// The procedure's place among the script's, from 0.
     pub procedure: usize,
@@ -43,7 +43,7 @@ pub struct Call {
 }
 
 /// A step of a world.
-#[derive(Debug, Drop)]
+#[derive(Drop)]
 pub enum Step {
     Admit(Call),
     /// Of the transaction of this serial number, as the next three.
