@@ -96,7 +96,11 @@ impl World {
         ensures { IfOk result (λ w. w ≡ record { core = state; dcs = dcs.items; copies = []; replies = []; news = [] }) }
     {
         state.known();
-        let mut requests = Vec::with_capacity(alloc, admitted_since(&state) as usize)?;
+        let Ok(mut requests) = Vec::with_capacity(alloc, admitted_since(&state) as usize) else {
+            drop(state);
+            drop(dcs);
+            return Err(AllocError);
+        };
         make_again(&state, &mut requests);
         Ok(World {
             alloc,
