@@ -29,10 +29,17 @@
  * old incarnation, replies of the new one are refused, and no call gets on there. Only a copy of the storage
  * whose mark isn't lower brings it back.
  *
+ * MZ_STUCK IS FOR GOOD: its locks stay held, calls that want them are MZ_BUSY, and mz_checkpoint is refused, so that the log
+ * grows. mz_lock_at says its records. The way out: end what else is open, put those records right by hand, and begin
+ * another log, whose session each component begins (docs/COMPONENTS.md).
+ *
  * AN ENGINE THAT DIED COMES BACK from the rows of its log and from what it noted of its data components:
  *
  *     mz_recover -> each data component that is down: mz_redo
  *                -> each mz_open_from: mz_retake where it waits, and mz_run
+ *
+ * What a component lost while the engine was dead the engine learns from it: by the news to the first wire, or, before that,
+ * by a call of yours that asks the component for its incarnation and mark, for mz_told (MZ_OLD_NEWS: nothing was lost).
  *
  * ERRORS. A call answers MZ_OK (0), or why it did nothing: a letter and a number in one word, as
  * MZ_CODE('B', 1) is "B1", a lock in the way. The handle is then as it was before; what was to be written
@@ -45,7 +52,8 @@
  *
  * THREADS. A handle has no lock: make one call on it at a time, and order calls of different threads by a
  * lock of yours. Different handles have nothing in common. No call blocks, so a lock round a call is held
- * for microseconds; carry a wire to your storage without the lock. With MZ_DEBUG defined before this header
+ * for microseconds; carry a wire to your storage without the lock. Looks (mz_open_from, mz_count and the like) are calls too: any
+ * thread may make one, under the lock. With MZ_DEBUG defined before this header
  * is included, a call that finds another on its way on the same handle says so on standard error and aborts.
  *
  * MEMORY. A handle takes mazzulpe_size() bytes by malloc, and its tables more as they grow, by the three
@@ -181,7 +189,8 @@ typedef struct {
 } mz_reply;
 
 /* What a data component tells of its restart: its new incarnation, above all earlier ones, and the
- * low-water mark that it kept. What it performed under numbers above that mark may be lost. */
+ * low-water mark that it kept. What it performed under numbers above that mark may be lost. The first incarnation is 0, of a
+ * component that has never restarted; the mark for a session that it has just begun is 0. */
 typedef struct { uint64_t incarnation, mark; } mz_news;
 
 typedef enum {
@@ -200,6 +209,16 @@ typedef enum { MZ_COMMITTED = 1, MZ_ABORTED, MZ_ENDED_NO_ROOM } mz_outcome;
 
 /* How a transaction ended, with the value of an abort, and the place of its end in the log, from 0. */
 typedef struct { mz_outcome outcome; uint64_t value; uint64_t place; } mz_receipt;
+
+/* What an operator watches (mz_count). What isn't `now` counts from mz_tc_new on, by calls of this header. */
+typedef struct {
+    uint64_t admitted, busy;               /* mz_admit: done; MZ_BUSY */
+    uint64_t committed, aborted, no_room;  /* mz_end, by outcome */
+    uint64_t open, waiting;                /* now: transactions; those of them that wait for an answer */
+    uint64_t wires, resent, redone;        /* requests made; their wires made again; operations redone */
+    uint64_t restarts, refused;            /* news taken in; replies that weren't */
+    uint64_t last_number, low_water, events; /* now: as mz_last_number, mz_low_water and mz_log_length */
+} mz_counts;
 
 /* Handles. What they are is the library's: there are pointers to them alone. */
 typedef struct mz_tc mz_tc;
@@ -253,7 +272,8 @@ typedef struct {
     uint64_t session;    /* of a transaction component: which one it is */
     mz_reply refused;    /* to the data component refused_dc, which may be 0 too: what mz_refused_reply says */
     uint32_t refused_dc, is_refused;
-    uint64_t is_begun, spared; /* of a data component: 1 where mz_dc_begin gave it its session */
+    uint64_t is_begun;   /* of a data component: 1 where mz_dc_begin gave it its session */
+    mz_counts counts;    /* of a transaction component: those that aren't `now`, and `waiting` */
 } mz_head;
 
 typedef char mz_head_keeps_the_frame_aligned[sizeof(mz_head) % 16 ? -1 : 1];
@@ -476,6 +496,9 @@ static inline mz_code mz_asked_by(mz_tc *tc, uint32_t what, uint64_t txn, mz_ask
         return mz_leave(f, c);
     }
     mz_get_wire(f, &asked->wire);
+    mz_counts *counts = &mz_head_of(f)->counts;
+    if (what == MZ_CALL_RETAKE) counts->resent++;
+    else counts->wires++, counts->waiting++;
     asked->wire.undoes = what == MZ_CALL_UNDO || (what == MZ_CALL_RETAKE && mz_is_undo(f, asked->wire.number));
     return mz_leave(f, c);
 }
@@ -566,6 +589,8 @@ static inline mz_code mz_admit(mz_tc *tc, uint64_t procedure, const uint64_t *ar
     c = mz_put_call(f, procedure, args, count);
     if (c == MZ_OK) c = mz_make(f, MZ_CALL_ADMIT);
     if (c == MZ_OK) *txn = f->txn;
+    mz_head_of(f)->counts.admitted += c == MZ_OK;
+    mz_head_of(f)->counts.busy += c == MZ_BUSY;
     if (c == MZ_BUSY) {
         if (record) mz_get_record(f, record);
         if (holder) *holder = f->txn;
@@ -608,6 +633,7 @@ static inline mz_code mz_resend(mz_tc *tc, uint64_t txn, mz_wire *wire) {
     if (c != MZ_OK) return mz_leave(f, c);
     mz_get_wire(f, wire);
     wire->undoes = mz_is_undo(f, wire->number);
+    mz_head_of(f)->counts.resent++;
     return mz_leave(f, c);
 }
 
@@ -622,6 +648,8 @@ static inline mz_code mz_answer(mz_tc *tc, uint64_t txn, const mz_reply *reply) 
     f->txn = txn;
     mz_put_reply(f, reply);
     c = mz_make(f, MZ_CALL_ANSWER);
+    mz_head_of(f)->counts.waiting -= c == MZ_OK;
+    mz_head_of(f)->counts.refused += c == MZ_STRANGER;
     return mz_leave(f, c == MZ_STRANGER ? mz_why_no_answer(f, txn, reply) : c);
 }
 
@@ -658,6 +686,8 @@ static inline mz_code mz_end(mz_tc *tc, uint64_t txn, mz_receipt *receipt) {
     f->txn = txn;
     c = mz_make(f, MZ_CALL_END);
     if (c == MZ_OK) {
+        mz_counts *counts = &mz_head_of(f)->counts;
+        ++*(f->kind == MZ_COMMITTED ? &counts->committed : f->kind == MZ_ABORTED ? &counts->aborted : &counts->no_room);
         receipt->outcome = (mz_outcome)f->kind;
         receipt->value = f->word;
         receipt->place = f->place;
@@ -816,15 +846,33 @@ static inline mz_code mz_site(mz_tc *tc, uint16_t dc, uint64_t *incarnation, int
 }
 
 /* A data component has restarted: it is down from now on, also where it was down already, and what was
- * done there above the mark is to be redone. MZ_OLD_NEWS, MZ_FORGOTTEN, MZ_NO_DC. */
+ * done there above the mark is to be redone. MZ_OLD_NEWS, MZ_FORGOTTEN, MZ_NO_DC; MZ_BAD_ARGUMENT also where the incarnation
+ * or the mark is above 2^62, which no component has. mz_run and mz_redo hand that on. */
 static inline mz_code mz_told(mz_tc *tc, uint16_t dc, const mz_news *news) {
     mz_frame *f;
-    mz_code c = mz_enter(tc, MZ_KIND_TC, news != NULL, &f);
+    const uint64_t most = (uint64_t)1 << 62;
+    mz_code c = mz_enter(tc, MZ_KIND_TC, news && news->incarnation <= most && news->mark <= most, &f);
     if (c != MZ_OK) return c;
     f->dc = dc;
     f->incarnation = news->incarnation;
     f->low_water = news->mark;
-    return mz_leave(f, mz_make(f, MZ_CALL_TOLD));
+    c = mz_make(f, MZ_CALL_TOLD);
+    mz_head_of(f)->counts.restarts += c == MZ_OK;
+    return mz_leave(f, c);
+}
+
+/* How far the redo of a data component that is down has got: the mark of its news, and the number that was redone last, which
+ * goes to mz_last_number at most; either may be NULL. MZ_NOT_DOWN, MZ_NO_DC. */
+static inline mz_code mz_redo_at(mz_tc *tc, uint16_t dc, uint64_t *mark, uint64_t *redone) {
+    mz_frame *f;
+    mz_code c = mz_enter(tc, MZ_KIND_TC, 1, &f);
+    if (c != MZ_OK) return c;
+    f->dc = dc;
+    c = mz_make(f, MZ_CALL_SITE);
+    if (c == MZ_OK && f->kind != 2) c = MZ_NOT_DOWN;
+    if (c == MZ_OK && mark) *mark = f->low_water;
+    if (c == MZ_OK && redone) *redone = f->number > f->low_water ? f->number : f->low_water;
+    return mz_leave(f, c);
 }
 
 /* The operation under redo at a data component that is down, the same until mz_redone takes its reply;
@@ -873,6 +921,8 @@ static inline mz_code mz_redone(mz_tc *tc, uint16_t dc, const mz_reply *reply) {
     f->dc = dc;
     mz_put_reply(f, reply);
     c = mz_make(f, MZ_CALL_REDONE);
+    mz_head_of(f)->counts.redone += c == MZ_OK;
+    mz_head_of(f)->counts.refused += c == MZ_STRANGER;
     return mz_leave(f, c == MZ_STRANGER ? mz_why_not_redone(f, dc, reply) : c);
 }
 
@@ -965,6 +1015,21 @@ static inline mz_code mz_log_at(mz_tc *tc, uint64_t place, mz_event *event) {
     return c;
 }
 
+/* What an operator watches, in one look, which takes no memory and a time that doesn't grow with the log. */
+static inline mz_code mz_count(mz_tc *tc, mz_counts *counts) {
+    mz_frame *f;
+    mz_code c = mz_enter(tc, MZ_KIND_TC, counts != NULL, &f);
+    if (c != MZ_OK) return c;
+    *counts = mz_head_of(f)->counts;
+    if (mz_make(f, MZ_CALL_OPEN_COUNT) == MZ_OK) counts->open = f->word;
+    if (mz_make(f, MZ_CALL_LOG_LENGTH) == MZ_OK) counts->events = f->word;
+    if (mz_make(f, MZ_CALL_LOW_WATER) == MZ_OK) {
+        counts->low_water = f->low_water;
+        counts->last_number = f->number;
+    }
+    return mz_leave(f, MZ_OK);
+}
+
 /* ---- the way back from a log */
 
 /* What is known of a data component, to be kept with the log: that it is up in this incarnation, or has restarted
@@ -987,6 +1052,13 @@ static inline mz_code mz_noted(mz_tc *tc, uint16_t dc, mz_note *note) {
 }
 
 /* ---- inside */
+
+/* Behind a way back: how many wait. */
+static inline void mz_count_waiting(mz_frame *f) {
+    uint64_t *waiting = &mz_head_of(f)->counts.waiting;
+    *waiting = 0;
+    for (f->place = 0; mz_make(f, MZ_CALL_OPEN_FROM) == MZ_OK; f->place++) *waiting += f->kind != 3;
+}
 
 static inline mz_code mz_hand_in_notes(mz_frame *f, const mz_note *notes, size_t count) {
     mz_code c = MZ_OK;
@@ -1019,6 +1091,7 @@ static inline mz_code mz_recover(mz_tc *tc, const void *rows, size_t count, cons
     c = mz_hand_in_bytes(f, rows, count * MZ_EVENT_BYTES);
     if (c == MZ_OK) c = mz_hand_in_notes(f, notes, note_count);
     if (c == MZ_OK) c = mz_make(f, MZ_CALL_RECOVER);
+    if (c == MZ_OK) mz_count_waiting(f);
     if (c == MZ_OK) return mz_leave(f, c);
     if (place) *place = f->place;
     mz_make(f, MZ_CALL_CLEAR);
@@ -1070,7 +1143,8 @@ static inline mz_code mz_file_back(mz_tc *tc, const void *bytes, size_t count, u
     if (c == MZ_OK) c = mz_make(f, MZ_CALL_FILE_BACK);
     if (c == MZ_OK) *whole = f->word;
     else if (place) *place = f->place;
-    if (c != MZ_OK) mz_make(f, MZ_CALL_CLEAR);
+    if (c == MZ_OK) mz_count_waiting(f);
+    else mz_make(f, MZ_CALL_CLEAR);
     return mz_leave(f, c);
 }
 

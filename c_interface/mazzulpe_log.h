@@ -55,6 +55,10 @@ typedef struct {
 /* What mz_log_open found: the log's events, how many bytes were cut off, and the place of a refusal. */
 typedef struct { uint64_t events, dropped, place; } mz_log_found;
 
+/* Of a log since it was opened: bytes written, and those of them that stay; what the device was asked for; and now the length of
+ * the file, of one over a device without what was there before. */
+typedef struct { uint64_t written, synced, appends, syncs, length; } mz_log_counts;
+
 /* ---- inside */
 
 typedef struct {
@@ -64,6 +68,7 @@ typedef struct {
     size_t size, other_size, gathered;
     uint64_t written, put, synced; /* bytes since it was opened: handed out; at the device; so many of them stay */
     uint64_t appends, syncs;   /* of the device */
+    uint64_t length;           /* of what the device has, or will have */
     int failed, busy;          /* busy: a thread is in the device */
     pthread_mutex_t lock;      /* of all this but failed; nobody holds it for long */
     pthread_cond_t done;       /* busy is over */
@@ -117,6 +122,7 @@ static inline mz_code mz_log_replace(mz_log *log, const uint8_t *bytes, size_t c
     mz_log_enter(log);
     mz_code c = mz_log_leave(log, log->device.replace(log->device.context, bytes, count));
     log->written += count;
+    log->length = count;
     log->syncs++;
     if (c == MZ_OK) log->put = log->synced = log->written;
     return c;
@@ -160,8 +166,9 @@ static inline mz_code mz_log_reach(mz_log *log, uint64_t until, int syncs) {
 /* ---- a log over a device */
 
 /* A log over a device whose bytes, none perhaps, mz_file_back has come back from, and which ends behind those that are
- * whole. NULL where there is no memory. */
+ * whole. NULL where there is no memory, or one of tc, device, append, sync and replace is NULL. */
 static inline mz_log *mz_log_over(mz_tc *tc, const mz_device *device) {
+    if (!tc || !device || !device->append || !device->sync || !device->replace) return NULL;
     mz_log *log = (mz_log *)calloc(1, sizeof *log);
     if (!log) return NULL;
     log->tc = tc;
@@ -200,6 +207,7 @@ static inline mz_code mz_log_write(mz_log *log, uint64_t *until) {
     } else if (c == MZ_OK) {
         log->gathered += count;
         log->written += count;
+        log->length += count;
     }
     *until = log->written;
     int is_much = log->gathered > MOST;
@@ -213,6 +221,16 @@ static inline mz_code mz_log_sync(mz_log *log, uint64_t until) { return mz_log_r
 
 /* The same without the sync: the device has it, so that it outlives this process. MZ_LOG_FAILED. */
 static inline mz_code mz_log_flush(mz_log *log, uint64_t until) { return mz_log_reach(log, until, 0); }
+
+/* What an operator watches of it, by any thread, without memory. */
+static inline mz_code mz_log_count(mz_log *log, mz_log_counts *counts) {
+    if (!log || !counts) return MZ_BAD_ARGUMENT;
+    pthread_mutex_lock(&log->lock);
+    const mz_log_counts now = {log->written, log->synced, log->appends, log->syncs, log->length};
+    pthread_mutex_unlock(&log->lock);
+    *counts = now;
+    return MZ_OK;
+}
 
 /* Writes what has happened and makes it stay. */
 static inline mz_code mz_log_keep(mz_log *log) {
@@ -378,7 +396,7 @@ static inline mz_code mz_log_cut(mz_log_file *f, const uint8_t *bytes, size_t co
 }
 
 /* Comes back from what the file has, and says so; a log without its session is refused before anything is done. */
-static inline mz_code mz_log_come_back(mz_log_file *f, mz_tc *tc, mz_log_found *found) {
+static inline mz_code mz_log_come_back(mz_log_file *f, mz_tc *tc, mz_log_found *found, uint64_t *length) {
     enum { FIRST_FRAME = 88 };
     uint8_t *bytes = NULL;
     uint64_t whole = 0, session = 0;
@@ -387,6 +405,7 @@ static inline mz_code mz_log_come_back(mz_log_file *f, mz_tc *tc, mz_log_found *
     if (c == MZ_OK && count >= FIRST_FRAME) c = named;
     if (c == MZ_OK) c = mz_file_back(tc, bytes, count, &whole, &found->place);
     if (c == MZ_OK) c = mz_log_cut(f, bytes, count, (size_t)whole);
+    *length = whole;
     found->dropped = c == MZ_OK ? count - whole : 0;
     found->events = c == MZ_OK ? mz_log_length(tc) : 0;
     if (c == MZ_OK && !whole) c = mz_log_new_session(f, &session);
@@ -397,24 +416,28 @@ static inline mz_code mz_log_come_back(mz_log_file *f, mz_tc *tc, mz_log_found *
 /* ---- a log in a file */
 
 /* Opens the log of a transaction component in which nothing has happened, behind its procedures: comes back from the
- * file, as mz_file_back does, or begins it where it is empty or not there. *found, which may be NULL, says what was there.
+ * file, as mz_file_back does, or begins it where it is empty or not there. *found, which may be NULL, says what was there,
+ * and is zeros where it wasn't read.
  * Refused: as mz_file_back, the file as it was; MZ_LOG_IN_USE, MZ_NO_SESSION; MZ_NO_LOG: also where it is no plain
  * file; MZ_LOG_FAILED, and MZ_MEMORY: tc may have come back, so begin with another. */
 static inline mz_code mz_log_open(mz_tc *tc, const char *path, mz_log **log, mz_log_found *found) {
     mz_log_found was = {0, 0, 0};
     mz_log_file *f = NULL;
+    if (found) *found = was;
     if (!tc || !path || !log) return MZ_BAD_ARGUMENT;
     *log = NULL;
     mz_code c = mz_log_file_open(path, &f);
     if (c != MZ_OK) return c;
     const mz_device device = {f, mz_log_file_append, mz_log_file_sync, mz_log_file_replace, mz_log_file_close};
-    c = mz_log_come_back(f, tc, &was);
+    uint64_t length = 0;
+    c = mz_log_come_back(f, tc, &was, &length);
     if (found) *found = was;
     if (c == MZ_OK && !(*log = mz_log_over(tc, &device))) c = MZ_MEMORY;
     if (c != MZ_OK) {
         mz_log_file_close(f);
         return c;
     }
+    (*log)->length = length;
     c = mz_log_keep(*log);
     if (c == MZ_OK) return c;
     mz_log_close(*log);

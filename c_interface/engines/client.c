@@ -2,6 +2,7 @@
 #include "gate.h"
 #include "mazzulpe_log.h"
 #include "mazzulpe_object.h"
+#include "prometheus.h"
 #include "storage.h"
 
 /* EVENTS: of a transfer. */
@@ -16,7 +17,7 @@ typedef struct {
     mz_tc *tc;
     gate gate;
     mz_log *log;
-    char log_path[512];
+    char log_path[512], metrics_path[512]; /* metrics: as Prometheus' text, of each checkpoint and of the end */
     uint64_t procedures[PROCEDURES], done;
     int is_anew; /* a checkpoint is being made */
     unsigned drawn;
@@ -145,6 +146,10 @@ static int begins_anew(client *e) {
     return c == MZ_OK;
 }
 
+static void tell_metrics(client *e) {
+    if (!prometheus_write(e->metrics_path, e->tc, e->log, DCS)) die(e->metrics_path, MZ_OK);
+}
+
 /* By a thread with nothing open. */
 static void checkpoint(client *e) {
     mz_open by;
@@ -153,6 +158,7 @@ static void checkpoint(client *e) {
         e->plan->seen->checkpoints += (uint64_t)begins_anew(e);
         gate_open(&e->gate);
     }
+    tell_metrics(e);
     e->is_anew = 0;
 }
 
@@ -231,6 +237,7 @@ static void loaded(client *e, const plan *p) {
     e->tc = mz_tc_new(DCS, &c);
     if (!e->tc) die("mz_tc_new", c);
     snprintf(e->log_path, sizeof e->log_path, "%s/log", p->folder);
+    snprintf(e->metrics_path, sizeof e->metrics_path, "%s/metrics", p->folder);
     c = mz_load_object_file(e->tc, p->object, NULL, NULL);
     for (int k = 0; c == MZ_OK && k < PROCEDURES; k++) c = mz_find(e->tc, names[k], &e->procedures[k]);
     if (c != MZ_OK) die(p->object, c);
@@ -241,6 +248,7 @@ static void loaded(client *e, const plan *p) {
 static int is_right_under_lock(client *e, uint64_t untold) {
     pthread_mutex_lock(&e->lock);
     int right = is_right(e, untold);
+    tell_metrics(e);
     pthread_mutex_unlock(&e->lock);
     return right;
 }

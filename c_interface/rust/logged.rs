@@ -5,7 +5,8 @@ mod mazzulpe;
 
 use mazzulpe::log::{Device, Log, LogError};
 use mazzulpe::{
-    Carried, DEPOSED, DIVERGED, Dc, LOG_FAILED, LOG_IN_USE, NO_SESSION, Next, Outcome, Ran, Refusal, Said, Tc, Wire,
+    BAD_ARGUMENT, Carried, DEPOSED, DIVERGED, Dc, LOG_FAILED, LOG_IN_USE, NO_SESSION, Next, Outcome, Ran, Refusal, Said,
+    Tc, Wire,
 };
 use std::fs;
 use std::io;
@@ -203,6 +204,9 @@ fn what_cannot_be() -> Result<(), Failed> {
     });
     println!("an undo that isn't answered: {:?}, {undoes:?}", ran.map_err(told)?);
     println!("sent again: {}", tc.resend(txn).map_err(told)?.undoes);
+    println!("{:?}", tc.count());
+    let high = tc.told(0, mazzulpe::News { incarnation: (1 << 62) + 1, mark: 0 }).is_err_and(|it| it == BAD_ARGUMENT);
+    println!("news above 2^62: {high}, redo: {:?}", tc.redo_at(0));
     Ok(())
 }
 

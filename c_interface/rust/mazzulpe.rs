@@ -4,6 +4,7 @@
 //!
 //! A handle is `Send` and not `Sync`: put it into a `Mutex` to share it.
 
+mod judged;
 pub mod log;
 mod object;
 mod refusal;
@@ -107,6 +108,8 @@ struct Handle {
     refused: Option<(u16, Reply)>,
     /// Of a data component: it has begun its session.
     is_begun: bool,
+    /// Of a transaction component: those that aren't `now`, and `waiting`.
+    counts: Counts,
 }
 
 // SAFETY: a handle has no ties to the thread that made it, and the library proves its state `Send`.
@@ -128,7 +131,7 @@ impl Handle {
         let frame = NonNull::new(room.cast::<Frame>()).ok_or(MEMORY)?;
         // SAFETY: it is room for an engine, aligned as it has to be, and nobody else's.
         unsafe { mazzulpe_open(frame.as_ptr()) };
-        let mut handle = Handle { frame, session: 0, refused: None, is_begun: false };
+        let mut handle = Handle { frame, session: 0, refused: None, is_begun: false, counts: Counts::default() };
         handle.frame().word = word;
         handle.frame().place = place;
         handle.call(what)?;
@@ -239,61 +242,6 @@ impl Handle {
         Wire { number, low_water, incarnation, redo, op, session, undoes: false }
     }
 
-    /// The last event from `low` to before `high` that gave a number out: whether it undoes, the number, and its place.
-    fn giver_before(&mut self, low: u64, high: u64) -> Option<(bool, u64, u64)> {
-        for at in (low..high).rev() {
-            self.frame().place = at;
-            self.call(call::LOG_BYTES).ok()?;
-            let bytes = &self.frame().bytes;
-            let number = u64::from_le_bytes(bytes[16..24].try_into().expect("8 bytes"));
-            if bytes[0] == 2 || bytes[0] == 4 {
-                return Some((bytes[0] == 4, number, at));
-            }
-        }
-        None
-    }
-
-    /// Whether this open request undoes a write, by its event in the log, where numbers rise.
-    fn is_undo(&mut self, number: u64) -> bool {
-        let (mut low, mut high) = (0, self.counted(call::LOG_LENGTH));
-        while low < high {
-            let middle = low + (high - low) / 2;
-            match self.giver_before(low, middle + 1) {
-                Some((undoes, found, _)) if found == number => return undoes,
-                Some((_, found, at)) if found > number => high = at,
-                _ => low = middle + 1,
-            }
-        }
-        false
-    }
-
-    /// Keeps in mind a reply that the data component can't give, and says which refusal that is.
-    fn refused_as(&mut self, dc: u16, reply: &Reply) -> Refusal {
-        self.refused = Some((dc, *reply));
-        if matches!(reply.said, Said::Old) { DEPOSED } else { DIVERGED }
-    }
-
-    /// Of a reply that was no answer to the open request: [`STRANGER`] where it is another's, too.
-    fn why_no_answer(&mut self, txn: u64, reply: &Reply) -> Refusal {
-        self.frame().txn = txn;
-        let is_open = self.call(call::WIRE).is_ok();
-        let f = self.frame();
-        let (same, dc) = ((f.number, f.incarnation) == (reply.number, reply.incarnation), f.dc);
-        if is_open && same { self.refused_as(dc, reply) } else { STRANGER }
-    }
-
-    /// The same of the operation under redo: the one behind the number that was redone last.
-    fn why_not_redone(&mut self, dc: u16, reply: &Reply) -> Refusal {
-        self.frame().dc = dc;
-        let is_down = self.call(call::SITE).is_ok() && self.frame().kind == 2;
-        if !is_down || self.frame().incarnation != reply.incarnation {
-            return STRANGER;
-        }
-        self.frame().dc = dc;
-        let is_left = self.call(call::REDO_BEHIND).is_ok() && self.frame().kind == 1;
-        if is_left && self.frame().number == reply.number { self.refused_as(dc, reply) } else { STRANGER }
-    }
-
     fn put_wire(&mut self, wire: &Wire) {
         let (op, record, value) = match wire.op {
             Op::Read(record) => (1, record, [0; 64]),
@@ -387,8 +335,14 @@ impl Tc {
         self.handle.put_args(args).map_err(NotAdmitted::Refused)?;
         self.frame().word = procedure;
         match self.handle.call(call::ADMIT) {
-            Ok(()) => Ok(self.frame().txn),
-            Err(BUSY) => Err(NotAdmitted::Busy { record: self.handle.record(), holder: self.frame().txn }),
+            Ok(()) => {
+                self.handle.counts.admitted += 1;
+                Ok(self.frame().txn)
+            }
+            Err(BUSY) => {
+                self.handle.counts.busy += 1;
+                Err(NotAdmitted::Busy { record: self.handle.record(), holder: self.frame().txn })
+            }
             Err(refusal) => Err(NotAdmitted::Refused(refusal)),
         }
     }
@@ -404,6 +358,9 @@ impl Tc {
     fn next(&mut self, what: u32, txn: u64) -> Result<Next, Refusal> {
         self.frame().txn = txn;
         self.handle.call(what)?;
+        if matches!(self.frame().kind, 1 | 8) {
+            self.handle.count_request(what == call::RETAKE);
+        }
         Ok(match self.frame().kind {
             1 => {
                 let wire = self.handle.wire();
@@ -434,6 +391,7 @@ impl Tc {
         self.frame().txn = txn;
         self.handle.call(call::WIRE)?;
         let wire = self.handle.wire();
+        self.handle.counts.resent += 1;
         Ok(Wire { undoes: self.handle.is_undo(wire.number), ..wire })
     }
 
@@ -446,7 +404,9 @@ impl Tc {
     pub fn answer(&mut self, txn: u64, reply: &Reply) -> Result<(), Refusal> {
         self.handle.put_reply(reply);
         self.frame().txn = txn;
-        self.handle.call(call::ANSWER).map_err(|it| match it {
+        let answered = self.handle.call(call::ANSWER);
+        self.handle.counts.waiting -= u64::from(answered.is_ok());
+        answered.map_err(|it| match it {
             STRANGER => self.handle.why_no_answer(txn, reply),
             other => other,
         })
@@ -469,7 +429,14 @@ impl Tc {
         self.frame().txn = txn;
         self.handle.call(call::END)?;
         let f = self.frame();
-        Ok(Receipt { outcome: Outcome::of(f.kind, f.word), place: f.place })
+        let receipt = Receipt { outcome: Outcome::of(f.kind, f.word), place: f.place };
+        let counts = &mut self.handle.counts;
+        *match receipt.outcome {
+            Outcome::Committed => &mut counts.committed,
+            Outcome::Aborted(_) => &mut counts.aborted,
+            Outcome::NoRoom => &mut counts.no_room,
+        } += 1;
+        Ok(receipt)
     }
 
     /// How many transactions are open.
@@ -537,11 +504,17 @@ impl Tc {
         Ok((self.frame().incarnation, self.frame().kind == 2))
     }
 
-    /// A data component has restarted: it is down. [`FORGOTTEN`] is the loss of that storage.
+    /// A data component has restarted: it is down. [`FORGOTTEN`] is the loss of that storage. [`BAD_ARGUMENT`]: its incarnation or
+    /// its mark is above 2^62.
     pub fn told(&mut self, dc: u16, news: News) -> Result<(), Refusal> {
+        if news.incarnation.max(news.mark) > 1 << 62 {
+            return Err(BAD_ARGUMENT);
+        }
         let f = self.frame();
         (f.dc, f.incarnation, f.low_water) = (dc, news.incarnation, news.mark);
-        self.handle.call(call::TOLD)
+        self.handle.call(call::TOLD)?;
+        self.handle.counts.restarts += 1;
+        Ok(())
     }
 
     /// What is to be redone next at a data component that is down; `None`: it is up.
@@ -575,10 +548,27 @@ impl Tc {
     pub fn redone(&mut self, dc: u16, reply: &Reply) -> Result<(), Refusal> {
         self.handle.put_reply(reply);
         self.frame().dc = dc;
-        self.handle.call(call::REDONE).map_err(|it| match it {
+        let redone = self.handle.call(call::REDONE);
+        self.handle.counts.redone += u64::from(redone.is_ok());
+        redone.map_err(|it| match it {
             STRANGER => self.handle.why_not_redone(dc, reply),
             other => other,
         })
+    }
+
+    /// How far the redo of a data component that is down has got: the mark of its news, and the number that was redone last.
+    pub fn redo_at(&mut self, dc: u16) -> Result<(u64, u64), Refusal> {
+        self.frame().dc = dc;
+        self.handle.call(call::SITE)?;
+        let f = self.frame();
+        if f.kind == 2 { Ok((f.low_water, f.number.max(f.low_water))) } else { Err(NOT_DOWN) }
+    }
+
+    /// What an operator watches, in one look.
+    pub fn count(&mut self) -> Counts {
+        let (open, events) = (self.open_count(), self.log_length());
+        let (last_number, low_water) = (self.last_number(), self.low_water());
+        Counts { open, last_number, low_water, events, ..self.handle.counts }
     }
 
     /// What is to be kept of a data component now.
@@ -597,7 +587,9 @@ impl Tc {
     pub fn recover(&mut self, rows: &[[u8; 96]], notes: &[Note]) -> Result<(), (Refusal, u64)> {
         self.frame().place = 0;
         let recovered = self.handle.recover(rows, notes);
-        recovered.map_err(|refusal| self.handle.refused_at(refusal))
+        recovered.map_err(|refusal| self.handle.refused_at(refusal))?;
+        self.handle.count_waiting();
+        Ok(())
     }
 
     /// Prepares what has to be behind the end of the log's file, and says how many bytes lie prepared.
@@ -621,7 +613,9 @@ impl Tc {
         self.frame().place = 0;
         let back = self.handle.hand_in_bytes(bytes).and_then(|()| self.handle.call(call::FILE_BACK));
         back.map_err(|refusal| self.handle.refused_at(refusal))?;
-        Ok(self.frame().word)
+        let whole = self.frame().word;
+        self.handle.count_waiting();
+        Ok(whole)
     }
 
     /// Which transaction component this is, of those over the same storage: each wire has it. 0 until it is set.

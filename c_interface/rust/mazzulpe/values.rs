@@ -78,6 +78,33 @@ impl Said {
     }
 }
 
+/// What an operator watches ([`super::Tc::count`]). What isn't `now` counts from [`super::Tc::new`] on.
+#[derive(Clone, Copy, Debug, Default, PartialEq, Eq)]
+pub struct Counts {
+    pub admitted: u64,
+    pub busy: u64,
+    pub committed: u64,
+    pub aborted: u64,
+    pub no_room: u64,
+    /// Now: transactions.
+    pub open: u64,
+    /// Now: those of them that wait for an answer.
+    pub waiting: u64,
+    /// Requests made.
+    pub wires: u64,
+    /// Their wires made again.
+    pub resent: u64,
+    pub redone: u64,
+    /// News taken in.
+    pub restarts: u64,
+    /// Replies that weren't taken in.
+    pub refused: u64,
+    /// Now, as the two after it.
+    pub last_number: u64,
+    pub low_water: u64,
+    pub events: u64,
+}
+
 /// What is said to a wire, by an incarnation of its data component.
 #[derive(Clone, Copy, Debug)]
 pub struct Reply {
