@@ -23,7 +23,7 @@ pub struct Found<'a> {
 }
 
 /// Why the procedures of an object file aren't taken.
-#[derive(Clone, Copy, Debug, PartialEq, Eq)]
+#[derive(Clone, Copy, Debug)]
 pub enum ObjectRefusal {
     /// The file isn't read.
     Unread(ObjectFault),
@@ -32,7 +32,7 @@ pub enum ObjectRefusal {
 }
 
 /// Why there are no procedures: they are refused, or memory ran out.
-#[derive(Clone, Copy, Debug, PartialEq, Eq)]
+#[derive(Clone, Copy, Debug)]
 pub enum FindError {
     Refused(ObjectRefusal),
     Memory,
