@@ -151,7 +151,8 @@ pub fn starts_of<F: Files<File = File>>(
     'partitions: for number in 0..count {
         match start_of(rt, alloc, task, number) {
             Ok(Recovery::Ready(start)) => {
-                if starts.push(start).is_err() {
+                if let Err(failed) = starts.push(start) {
+                    drop(failed);
                     drop(starts);
                     return Err(Fault::Memory);
                 }
