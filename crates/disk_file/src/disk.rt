@@ -56,9 +56,13 @@ fn write_behind(file: &mut File, len: u64, bytes: &[u8]) -> io::Result<u64>
     Ok(new)
 }
 
-// Writes behind the last byte, and syncs.
+// Writes behind the last byte, and syncs; what was written of bytes that don't fit is cut off again.
 fn write_synced(file: &mut File, bytes: &[u8]) -> io::Result<()> {
-    file.write_all(bytes)?;
+    let len = file.metadata()?.len();
+    if let Err(error) = file.write_all(bytes) {
+        let _ = file.set_len(len);
+        return Err(error);
+    }
     file.sync_data()
 }
 
@@ -103,7 +107,7 @@ impl DiskFile {
         };
         if let Err(error) = write_synced(dropped, end) {
             self.kept.note(&[UNSYNCED, 1, 0], &[]);
-            self.failure = Some(FileFault::Io(error));
+            self.failure = Some(FileFault::Dropped(error));
             return Err(DeviceError::Failed);
         }
         self.kept.note(&[KEPT, 0, 0], end);
@@ -199,6 +203,8 @@ impl Device for DiskFile {
                 Ok(())
             }
             Err(error) => {
+                // Of bytes that don't fit, what was written goes again.
+                let _ = self.file.set_len(len);
                 self.calls.note(&[APPENDED, 1, 0], bytes, len);
                 self.failure = Some(FileFault::Io(error));
                 Err(DeviceError::Failed)

@@ -7,6 +7,8 @@ use std::io;
 pub enum FileFault {
     /// The system says so.
     Io(io::Error),
+    /// The system says so of the file in which what is cut off is kept.
+    Dropped(io::Error),
     /// No name of it is left, or the name that it had is another file's: it was removed, moved or replaced.
     Gone,
     /// It has another length than what was read and written: another program wrote to it, or cut it.

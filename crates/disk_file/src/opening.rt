@@ -18,7 +18,7 @@ pub enum OpenError {
     /// It isn't read, and why.
     Unread(FileFault),
     /// It may be read and not written, or can't be made or synced, and why.
-    Unwritten(io::Error),
+    Unwritten(FileFault),
     Memory,
     /// Another process, or another handle of this one, has it open.
     Busy,
@@ -125,12 +125,29 @@ impl DiskFile {
         ensures left { Only (disk_bytes self.old) (left_of self.old) → Only (disk_bytes self.new) (left_of self.new) }
     {
         let name = format!(in alloc; "{path}.dropped")?;
-        is_of_bytes(rt, name.as_str())?;
-        let dropped = writable(rt, name.as_str())?;
-        sync_with_folder(rt, alloc, name.as_str(), &dropped)?;
-        self.keep_in(dropped);
-        Ok(())
+        match dropped_file(rt, alloc, name.as_str()) {
+            Ok(dropped) => {
+                self.keep_in(dropped);
+                Ok(())
+            }
+            Err(OpenError::Unwritten(FileFault::Io(error))) => Err(OpenError::Unwritten(
+                FileFault::Dropped(error),
+            )),
+            Err(error) => Err(error),
+        }
     }
+}
+
+// Opens the file of this name for what is cut off, and syncs it with its folder.
+fn dropped_file<F: Files<File = File>>(
+    rt: &F,
+    alloc: Global,
+    name: &str,
+) -> Result<File, OpenError> {
+    is_of_bytes(rt, name)?;
+    let dropped = writable(rt, name)?;
+    sync_with_folder(rt, alloc, name, &dropped)?;
+    Ok(dropped)
 }
 
 /// Opens and locks the file of this name, and reads it whole.
@@ -172,7 +189,7 @@ fn writable<F: Files<File = File>>(rt: &F, path: &str) -> Result<File, OpenError
         Ok(file) => Ok(file),
         Err(error) => match File::open(rt, path) {
             Err(unread) if unread.kind() != ErrorKind::NotFound => Err(OpenError::from(unread)),
-            _ => Err(OpenError::Unwritten(error)),
+            _ => Err(OpenError::Unwritten(FileFault::Io(error))),
         },
     }
 }
@@ -198,7 +215,7 @@ pub(crate) fn sync_with_folder<F: Files<File = File>>(
     let synced = file
         .sync_all()
         .and_then(|()| folder_of(rt, alloc, path)?.sync_all());
-    synced.map_err(OpenError::Unwritten)
+    synced.map_err(|error| OpenError::Unwritten(FileFault::Io(error)))
 }
 
 /// The folder in which a file lies that there is.

@@ -95,7 +95,7 @@ impl Beside {
         let Beside { file } = self;
         let name = name_beside(rt, alloc, path)?;
         let changed = file.set_len(0).and_then(|()| take_owner(&file, old.file()));
-        changed.map_err(OpenError::Unwritten)?;
+        changed.map_err(|error| OpenError::Unwritten(FileFault::Io(error)))?;
         sync_with_folder(rt, alloc, name.as_str(), &file)?;
         let mut emptied = DiskFile::settled(file, &[]);
         emptied.count_from(old);

@@ -20,7 +20,7 @@ use crate::streams::Streams;
 use clap::Error;
 use clap::error::ErrorKind;
 use command_line::words::{LogTask, Task, Wanted, WordFault, wanted_of};
-use disk_file::FileKind;
+use disk_file::{FileFault, FileKind};
 use log_part::Part;
 use partitioned_run::running::file_of;
 use program_files::explaining::explain;
@@ -60,13 +60,17 @@ pub fn no_memory<E: Write>(err: &mut E) -> u8
     MEMORY
 }
 
-// What stands behind a fault: nothing, or a colon and the reason.
+// What stands behind a file's name where there is a fault: nothing, or a colon and the reason; where it is the fault of the
+// file beside it, in which is kept what is cut off, that one's ending too.
 fn behind_fault(alloc: Global, reason: Option<&Reason>) -> Result<String, AllocError> {
     let Some(reason) = reason else {
         return Ok(String::new(alloc));
     };
     let words = reason.words(alloc)?;
-    format!(in alloc; ": {words}")
+    match reason {
+        Reason::File(FileFault::Dropped(_)) => format!(in alloc; ".dropped: {words}"),
+        _ => format!(in alloc; ": {words}"),
+    }
 }
 
 fn joined_line(alloc: Global, what: &str, file: &str, why: &str) -> Result<String, AllocError>

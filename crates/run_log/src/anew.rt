@@ -140,8 +140,7 @@ fn unopened(error: OpenError) -> Stop
     ensures { IsUnkept true result }
 {
     match error {
-        OpenError::Unread(fault) => Stop::NotKept(Some(fault)),
-        OpenError::Unwritten(error) => Stop::NotKept(Some(FileFault::Io(error))),
+        OpenError::Unread(fault) | OpenError::Unwritten(fault) => Stop::NotKept(Some(fault)),
         OpenError::Memory => Stop::Memory,
         OpenError::Busy | OpenError::Kind(_) => Stop::NotKept(None),
     }

@@ -23,7 +23,7 @@ use crate::log_lines::{back_lines, back_refusal, open_refusal, other_refusal, ov
 use base_records::{base_fault_line, begin as begin_with};
 use coming_back::{ComeBackFault, Resumed, come_back};
 use data_component::dc::Dc;
-use disk_file::{DiskFile, FileFault, OpenError};
+use disk_file::{DiskFile, OpenError};
 use frame_file::{DeviceError, FrameFault};
 use log_file::{BaseRow, Header, LogFile, OpenFault};
 use log_journal::{LogJournal, Restored};
@@ -140,7 +140,7 @@ fn unopened(alloc: Global, error: OpenError) -> Result<Output, Stop>
 {
     match error {
         OpenError::Unread(fault) => Err(Stop::Unread(fault)),
-        OpenError::Unwritten(error) => Err(Stop::NotKept(Some(FileFault::Io(error)))),
+        OpenError::Unwritten(fault) => Err(Stop::NotKept(Some(fault))),
         OpenError::Memory => Err(Stop::Memory),
         OpenError::Busy => Ok(Output::refusal(String::from_str(alloc, "refused log Busy\n")?)),
         OpenError::Kind(kind) => Ok(Output::refusal(kind_refusal(alloc, kind)?)),
