@@ -20,6 +20,8 @@ import tempfile
 
 from built import PROCD
 from hostile_faults import limited_to
+from log_files import numbers
+from plain_file import whole
 from procedures import PUT
 from trying import Program, preloaded
 
@@ -110,6 +112,20 @@ def reasons(program, folder, script):
         ended = refused(program, ["run", "--log", path, script], prepare)
         if ended != (3, b"", f"{said}\n"):
             yield f"{said}: {ended}"
+    left = (folder / "fuller").read_bytes()
+    if whole(left)[1] != len(left):
+        yield f"a full disk leaves {len(left) - whole(left)[1]} bytes of a frame"
+    yield from undropped(program, folder, plain.read_bytes(), script)
+
+
+def undropped(program, folder, data, script):
+    """What is wrong with a run that has no room for what it is to cut off, if anything."""
+    torn, dropped = folder / "torn", folder / "torn.dropped"
+    torn.write_bytes(data + numbers(whole(data)[0]) + bytes(2000))
+    ended = refused(program, ["run", "--log", torn, script], lambda: limited_to(500))
+    said = f"cannot write {dropped}: file too large\n"
+    if (*ended, dropped.read_bytes(), torn.stat().st_size) != (3, b"", said, b"", len(data) + 2008):
+        yield f"{said}: {ended}, {dropped.stat().st_size} bytes there"
 
 
 def unrenamed(program, folder, short):
