@@ -200,14 +200,41 @@ def foreign(checks, folder):
         checks.same(f"{what} in no folder", len(told) == 1 and told[0].startswith(f"cannot write {gone}: "), True)
         os.makedirs(folder / "taken", exist_ok=True)
         _, told = checks.run([option, folder / "taken"], FEW)
-        checks.same(f"{what} in a folder's place", len(told), 1)
+        checks.same(f"{what} in a folder's place", told, [f"cannot write {folder / 'taken'}: it is no file"])
+        path.write_text("#" if option == "--metrics" else "{")
+        _, told = checks.run([option, path], FEW)
+        checks.same(f"{what} over one byte", (len(path.read_text()), told), (1, [f"cannot write {path}: it isn't a run's {what}"]))
+
+
+def links(checks, folder):
+    """A link stays one, and the file that it leads to is written; a draft is made new."""
+    for option, what in (("--metrics", "metrics"), ("--trace", "trace")):
+        target, link, other = folder / f"{what}.file", folder / f"{what}.link", folder / f"{what}.other"
+        target.write_bytes(b"")
+        link.symlink_to(target)
+        _, told = checks.run([option, link], FEW)
+        checks.same(f"{what} through a link", (link.is_symlink(), target.stat().st_size > 100, told), (True, True, []))
+        other.write_text("mine\n")
+        draft = pathlib.Path(f"{target}.new")
+        draft.symlink_to(other)
+        _, told = checks.run([option, target], FEW)
+        left = (draft.is_symlink(), other.read_text(), told)
+        checks.same(f"{what} beside a link", left, (True, "mine\n", [f"cannot write {target}.new: it isn't a run's {what}"]))
+        draft.unlink()
+        lost = folder / f"{what}.lost"
+        lost.symlink_to(folder / "nothing")
+        _, told = checks.run([option, lost], FEW)
+        checks.same(f"{what} through a link to nothing", (lost.is_symlink(), len(told)), (True, 1))
+        _, told = checks.run([option, "/dev/stdout"], FEW)
+        checks.same(f"{what} into a pipe", told, ["cannot write /dev/stdout: it is no file"])
+        checks.same("/dev/stdout", pathlib.Path("/dev/stdout").is_symlink(), True)
 
 
 def main():
     words = argparse.ArgumentParser(description=__doc__, formatter_class=argparse.RawDescriptionHelpFormatter)
     words.add_argument("--procd", default=str(PROCD))
     checks = Checks(words.parse_args().procd)
-    for section in (figures, metrics, traces, foreign):
+    for section in (figures, metrics, traces, foreign, links):
         with tempfile.TemporaryDirectory() as folder:
             section(checks, pathlib.Path(folder))
     for line in checks.wrong[:20]:

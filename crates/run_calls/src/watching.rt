@@ -153,7 +153,7 @@ impl Waits {
     pub fn begin(&self) {
         self.write_metrics(None);
         if let Some(trace) = &self.trace {
-            trace.check(&self.system);
+            trace.check(&self.system, self.alloc);
         }
     }
 

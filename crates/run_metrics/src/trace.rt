@@ -44,8 +44,8 @@ impl Trace {
     }
 
     /// Says whether the file can be written.
-    pub fn check<F: Files<File = File>>(&self, rt: &F) {
-        self.file.check(rt);
+    pub fn check<F: Files<File = File>>(&self, rt: &F, alloc: Global) {
+        self.file.check(rt, alloc);
     }
 
     /// A call comes to a phase, so many nanoseconds behind the run's beginning.
