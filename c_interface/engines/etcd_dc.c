@@ -112,7 +112,7 @@ static int is_known(etcd_dc *dc, connection *c, uint64_t known) {
     for (int tries = 0; !c->is_known && tries < 3; tries++) {
         standing s;
         if (!is_read(c, &s)) return 0;
-        dc->is_retired = s.is_there && s.session != dc->session;
+        dc->is_retired = s.is_there ? s.session != dc->session : !dc->session;
         if (dc->is_retired) return 0;
         c->is_known = s.is_there && !strcmp(s.life, c->life) && s.incarnation >= known;
         uint64_t greatest = s.is_there && s.incarnation > known ? s.incarnation : known;

@@ -22,8 +22,8 @@
 typedef struct etcd_dc etcd_dc;
 
 /* For the cluster of these members, "host:port,..". It connects with the first wire, and to the next member where one
- * doesn't answer. `session`, mz_session of the transaction component, is served then if none is. Several threads may use it at
- * once. NULL: no memory. */
+ * doesn't answer. `session`, mz_session of the transaction component, is served then if none is; 0: none begins. Several threads
+ * may use it at once. NULL: no memory. */
 etcd_dc *etcd_dc_open(const char *members, uint64_t session);
 void etcd_dc_close(etcd_dc *dc);
 

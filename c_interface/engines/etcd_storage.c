@@ -157,7 +157,7 @@ int servers_begin(const char *folder, const char *control) {
     setenv("ETCDCTL_API", "3", 1);
     first_port = FIRST_PORT + 2 * DCS * MEMBERS * (getpid() % RUNS);
     servers_start();
-    if (!storage_open(folder, SESSION)) return 0;
+    if (!storage_open(folder, 0)) return 0;
     for (int d = 0; d < DCS; d++)
         for (int waited = 0; !answers(d); waited += 20) {
             if (waited > ANSWERS_WITHIN) return 0;

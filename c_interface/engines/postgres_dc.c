@@ -163,7 +163,8 @@ static int begins(PGconn *c, uint64_t session, uint64_t former) {
 
 static int is_begun(postgres_dc *dc, PGconn *c) {
     if (dc->is_begun) return 1;
-    return dc->is_begun = (has_tables(c) || (executed(c, schema) && executed(c, schema_of_wires))) && begins(c, dc->session, 0) >= 0;
+    if (!has_tables(c) && !(executed(c, schema) && executed(c, schema_of_wires))) return 0;
+    return dc->is_begun = !dc->session || begins(c, dc->session, 0) >= 0;
 }
 
 static int is_ready(postgres_dc *dc, PGconn *c) {

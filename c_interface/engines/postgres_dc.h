@@ -23,7 +23,8 @@ typedef struct postgres_dc postgres_dc;
 typedef enum { POSTGRES_DC_LATER, POSTGRES_DC_AT_ONCE } postgres_dc_durable;
 
 /* For the database of these connection words of libpq. It connects with the first wire, and anew where it has to, and
- * makes its tables where there are none. `session`, mz_session of the transaction component, is served then if none is.
+ * makes its tables where there are none. `session`, mz_session of the transaction component, is served then if none is; 0: none
+ * begins.
  * Several threads may use it at once. NULL: no memory. Where the way to the server may break without a word, give
  * tcp_user_timeout and connect_timeout among the words. */
 postgres_dc *postgres_dc_open(const char *words, uint64_t session, postgres_dc_durable durable);

@@ -132,7 +132,7 @@ int servers_begin(const char *folder, const char *control) {
             return 0;
         }
     servers_start();
-    if (!storage_open(folder, SESSION)) return 0;
+    if (!storage_open(folder, 0)) return 0;
     for (int i = 0; i < DCS; i++)
         for (int waited = 0; !postgres_dc_execute(components[i], "select 1"); waited += 20) {
             if (waited > ANSWERS_WITHIN) return 0;

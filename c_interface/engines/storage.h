@@ -9,8 +9,8 @@ enum { DCS = 2, SESSION = 1 }; /* SESSION: of whoever has no log */
 
 /* ---- the way to its servers, of the client */
 
-/* `session` names the transaction component: with the first wire it begins where none is served. 0 where there is no memory. The
- * servers may be down. */
+/* `session` names the transaction component: with the first wire it begins where none is served; 0: none begins. 0 where there is no
+ * memory. The servers may be down. */
 int storage_open(const char *folder, uint64_t session);
 
 /* Carries a wire, from several threads at once. */
