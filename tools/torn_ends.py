@@ -1,21 +1,21 @@
 #!/usr/bin/env python3
-"""Reads a log's file of 8 MB whose last frame is torn, and looks whether that takes no longer than reading it whole, three
-times over.
+"""Reads a log's file of 8 MB whose last frame is torn, and looks whether that takes a processor no more than three times as long
+as the whole file.
 
 usage: tools/torn_ends.py [--procd PATH] [--megabytes N]
 
 The one batch has the rows of calls one after another, as a run with many workers writes them, so that many of its words look
 like the number and the length of a frame. It is torn a byte before its end, and half way; once more with its length in a hole;
-and once, of a quarter of the bytes, with heads all over it that each claim the bytes up to its end, which a value may hold.
-A later frame behind a damaged one is found in each of them. The status is 1 where something was wrong.
+and a quarter of it is all heads that each claim the bytes up to its end, as values may hold them. A later frame behind a
+damaged one is found in each of them. The status is 1 where something was wrong.
 """
 import argparse
 import pathlib
+import resource
 import statistics
 import subprocess
 import sys
 import tempfile
-import time
 
 from built import PROCD
 from log_files import batch, event, frame, header, numbers
@@ -23,7 +23,7 @@ from plain_log import ADMIT, ANSWER, ASK, END
 from trying import Program
 
 MOST = 3  # times as long as the whole file
-CROWDED = 300  # the same where heads claim each byte more than 10,000 times
+CROWDED = 40  # of a quarter of it, where heads claim each byte some 40,000 times
 ROUNDS = 3
 
 
@@ -37,24 +37,31 @@ def rows_of(calls):
         yield event(END, 1, txn)
 
 
-def crowded(first, data):
-    """These bytes with a head of a later frame in each 24 of them, which claims all behind it."""
-    return b"".join(numbers(first + 1, len(data) - place - 24, 0) for place in range(0, len(data) - 24, 24))
+def crowded(first, size):
+    """So many bytes, or a few less, of heads of a later frame, each of which claims all bytes behind it."""
+    size -= size % 24
+    return b"".join(numbers(first + 1, size - place - 24, 0) for place in range(0, size, 24))
+
+
+def spent():
+    """The seconds of a processor that programs have taken so far."""
+    used = resource.getrusage(resource.RUSAGE_CHILDREN)
+    return used.ru_utime + used.ru_stime
 
 
 class Reader:
     """`procd log`, and how long it takes."""
 
     def __init__(self, program):
-        self.program, self.wrong, self.count, self.rounds = program, [], 0, ROUNDS
+        self.program, self.wrong, self.count = program, [], 0
 
     def seconds(self, what, data, wanted):
         """The median of some rounds; the last line has to be this."""
         path, took = self.program.file(data), []
-        for _ in range(self.rounds):
-            begun = time.monotonic()
+        for _ in range(ROUNDS):
+            begun = spent()
             ran = subprocess.run([self.program.path, "log", path], capture_output=True)
-            took.append(time.monotonic() - begun)
+            took.append(spent() - begun)
         self.count += 1
         last = ran.stdout.decode().splitlines()[-1]
         if not last.startswith(wanted):
@@ -69,34 +76,26 @@ class Reader:
             self.wrong.append(f"{what}: over {most} times as long")
 
 
-def try_end(reader, what, given, most):
-    """One torn end, behind the header's frame, and a later frame behind it, beside the whole file."""
-    head, end, size, whole = given
-    took = reader.seconds(what, head + end, f"unfinished {len(end)} bytes")
-    reader.no_longer(what, took, whole, most)
-    if end[8:16] != bytes(8):
-        end = end[:8] + numbers(size * 2) + end[16:]
-    took = reader.seconds(f"{what}, with a later frame", head + end + frame(2, batch()), "refused log Damaged frame 1")
-    reader.no_longer(f"{what}, with a later frame", took, whole, most)
-
-
-def whole_file(reader, megabytes):
-    """A file of one batch, its header's frame and the batch's payload and frame; and how long it takes to read."""
-    head, calls = frame(0, header(1)), int(megabytes * 1_000_000) // (4 * 96)
-    payload = batch(*rows_of(calls))
-    big = frame(1, payload)
-    return head, payload, big, reader.seconds("whole", head + big, f"{calls * 4 - 1} end {calls - 1} committed")
-
-
 def try_all(reader, megabytes):
     """Each torn end, and a later frame behind it."""
-    head, _, big, whole = whole_file(reader, megabytes)
-    try_end(reader, "a byte short", (head, big[:-1], len(big), whole), MOST)
-    try_end(reader, "half of it", (head, big[: len(big) // 2], len(big), whole), MOST)
-    try_end(reader, "its length in a hole", (head, big[:8] + bytes(8) + big[16:-1], len(big), whole), MOST)
-    head, payload, big, whole = whole_file(reader, megabytes / 4)
-    reader.rounds = 1
-    try_end(reader, "crowded with heads", (head, big[:24] + crowded(1, payload[:-1]), len(big), whole), CROWDED)
+    head = frame(0, header(1))
+    calls = megabytes * 1_000_000 // (4 * 96)
+    payload = batch(*rows_of(calls))
+    big, later = frame(1, payload), frame(2, batch())
+    whole = reader.seconds("whole", head + big, f"{calls * 4 - 1} end {calls - 1} committed")
+    ends = {
+        "a byte short": (big[:-1], MOST),
+        "half of it": (big[: len(big) // 2], MOST),
+        "its length in a hole": (big[:8] + bytes(8) + big[16:-1], MOST),
+        "crowded with heads": (big[:24] + crowded(1, len(payload) // 4), CROWDED),
+    }
+    for what, (end, most) in ends.items():
+        took = reader.seconds(what, head + end, f"unfinished {len(end)} bytes")
+        reader.no_longer(what, took, whole, most)
+        if end[8:16] != bytes(8):
+            end = end[:8] + numbers(len(big) * 2) + end[16:]
+        took = reader.seconds(f"{what}, with a later frame", head + end + later, "refused log Damaged frame 1")
+        reader.no_longer(f"{what}, with a later frame", took, whole, most)
 
 
 def main():
