@@ -40,13 +40,18 @@ TOOLS = [
 class Process:
     """What was seen of a process: what it is for, and what it took so far, with what those took that it waited for."""
 
-    def __init__(self, words, place, parent):
+    def __init__(self, parent):
         self.parent, self.children, self.is_alive = parent, [], True
-        self.words, self.crate = words, ""
-        self.purpose = self.found(place) or (parent.purpose if parent else "the gate itself")
+        self.name = self.words = self.purpose = None
+        self.crate = ""
         self.own = self.waited = 0.0
         if parent:
             parent.children.append(self)
+
+    def runs(self, name, words, place):
+        """Notes which program it runs, at first or from now on."""
+        self.name, self.words = name, words
+        self.purpose = self.found(place) or (self.parent.purpose if self.parent else "the gate itself")
 
     def found(self, place):
         """What it is for, if its words say so."""
@@ -88,23 +93,25 @@ class Watch:
     def look(self):
         """Looks at all processes once; answers whether the first one is there."""
         stats = {int(name): read(f"/proc/{name}/stat") for name in os.listdir("/proc") if name.isdigit()}
-        fields = {pid: stat[stat.rfind(b")") + 2:].split() for pid, stat in stats.items() if stat}
+        # The name stands in brackets, and may have any bytes.
+        fields = {pid: [stat[:stat.rfind(b")")], *stat[stat.rfind(b")") + 2:].split()] for pid, stat in stats.items() if stat}
         for it in self.known.values():
             it.is_alive = False
-        for pid in sorted(fields, key=lambda it: int(fields[it][19])):
+        for pid in sorted(fields, key=lambda it: int(fields[it][20])):
             self.take_in(pid, fields)
-        return self.top in fields and fields[self.top][0] != b"Z"
+        return self.top in fields and fields[self.top][1] != b"Z"
 
     def take_in(self, pid, fields):
         """Notes what one process took, if it is one of ours."""
-        of, parent = fields[pid], int(fields[pid][1])
-        key = (pid, of[19])
-        above = self.known.get((parent, fields[parent][19])) if parent in fields else None
-        if key not in self.known and (above or pid == self.top):
-            words = read(f"/proc/{pid}/cmdline").decode("utf-8", "replace").split("\0")[:-1]
-            if words:
-                self.known[key] = Process(words, self.place(pid), above)
+        (name, *of), key = fields[pid], (pid, fields[pid][20])
+        parent = int(of[1])
+        above = self.known.get((parent, fields[parent][20])) if parent in fields else None
         it = self.known.get(key)
+        if it is None and (above or pid == self.top):
+            it = self.known[key] = Process(above)
+        if it and it.name != name:
+            words = read(f"/proc/{pid}/cmdline").decode("utf-8", "replace").split("\0")[:-1]
+            it.runs(name, words or [""], self.place(pid))
         if it:
             user, system, user_waited, system_waited = (int(ticks) / TICKS for ticks in of[11:15])
             it.own, it.waited, it.is_alive = user + system, user_waited + system_waited, True
