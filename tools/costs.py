@@ -15,6 +15,7 @@ import collections
 import os
 import pathlib
 import re
+import signal
 import sys
 import time
 
@@ -195,6 +196,7 @@ def main():
     parser.add_argument("--functions", type=int, nargs="?", const=50, metavar="N")
     parser.add_argument("file", nargs="?", type=pathlib.Path, default=NOTED)
     options = parser.parse_args()
+    signal.signal(signal.SIGPIPE, signal.SIG_DFL)
     if options.of:
         follow(options.of, options.to)
     elif options.functions:
