@@ -15,6 +15,7 @@ static pid_t pids[DCS][MEMBERS], forgetting;
 static int first_port, restored[DCS], is_untold;
 static char at_folder[TEXT];
 static etcd_dc *components[DCS];
+mz_batched storage_components[DCS];
 
 static int port(int dc, int member, int is_peer) { return first_port + 2 * (dc * MEMBERS + member) + is_peer; }
 
@@ -28,6 +29,14 @@ static const char *text(char to[TEXT], const char *format, ...) {
 
 /* ---- the way to them */
 
+/* One wire after the other. */
+static mz_carried receive(void *dc, int sent, const mz_wire *wires, size_t count, mz_reply *replies, mz_news *news) {
+    mz_carried carried = MZ_REPLIED;
+    (void)sent;
+    for (size_t i = 0; carried == MZ_REPLIED && i < count; i++) carried = etcd_dc_perform((etcd_dc *)dc, &wires[i], &replies[i], news);
+    return carried;
+}
+
 int storage_open(const char *folder, uint64_t session) {
     char members[TEXT];
     (void)folder;
@@ -35,12 +44,9 @@ int storage_open(const char *folder, uint64_t session) {
         text(members, "127.0.0.1:%d,127.0.0.1:%d,127.0.0.1:%d", port(d, 0, 0), port(d, 1, 0), port(d, 2, 0));
         components[d] = etcd_dc_open(members, session);
         if (!components[d]) return 0;
+        storage_components[d] = (mz_batched){components[d], NULL, receive, MZ_BATCH};
     }
     return 1;
-}
-
-mz_carried storage_carry(const mz_wire *wire, mz_reply *reply, mz_news *news) {
-    return etcd_dc_perform(components[wire->record.dc], wire, reply, news);
 }
 
 int storage_begin(uint16_t dc, uint64_t session, uint64_t former) { return etcd_dc_begin(components[dc], session, former); }

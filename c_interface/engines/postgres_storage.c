@@ -13,6 +13,7 @@ int servers_synced;
 
 static struct { char folder[300], output[320]; pid_t pid; } servers[DCS];
 static postgres_dc *components[DCS];
+mz_batched storage_components[DCS];
 static const struct passwd *owner; /* who runs the servers: PostgreSQL refuses root */
 
 /* What is made wrong, by SQL alone. */
@@ -37,18 +38,23 @@ static const struct { const char *name, *sql; } controls[] = {
      "  insert into mz.alive select incarnation from mz.component; end $$"},
 };
 
+/* One wire after the other. */
+static mz_carried receive(void *dc, int sent, const mz_wire *wires, size_t count, mz_reply *replies, mz_news *news) {
+    mz_carried carried = MZ_REPLIED;
+    (void)sent;
+    for (size_t i = 0; carried == MZ_REPLIED && i < count; i++) carried = postgres_dc_perform((postgres_dc *)dc, &wires[i], &replies[i], news);
+    return carried;
+}
+
 int storage_open(const char *folder, uint64_t session) {
     char words[400];
     for (int d = 0; d < DCS; d++) {
         snprintf(words, sizeof words, "host=%s port=%d user=postgres dbname=postgres", folder, 5432 + d);
         components[d] = postgres_dc_open(words, session, POSTGRES_DC_LATER);
         if (!components[d]) return 0;
+        storage_components[d] = (mz_batched){components[d], NULL, receive, MZ_BATCH};
     }
     return 1;
-}
-
-mz_carried storage_carry(const mz_wire *wire, mz_reply *reply, mz_news *news) {
-    return postgres_dc_perform(components[wire->record.dc], wire, reply, news);
 }
 
 int storage_begin(uint16_t dc, uint64_t session, uint64_t former) { return postgres_dc_begin(components[dc], session, former); }
