@@ -6,7 +6,7 @@
 #include <stddef.h>
 #include <stdint.h>
 
-enum { ETCD_ROOM = 16384, ETCD_TEXT = 128 };
+enum { ETCD_ROOM = 1 << 18, ETCD_TEXT = 128 };
 
 /* A connection to one of the members "host:port,..", and the last response. */
 typedef struct {
@@ -33,6 +33,9 @@ etcd_part etcd_whole(const etcd_connection *c);
 /* The i-th response of the transaction whose response this is; empty where there is none. One of a transaction within it
  * counts as the first of those behind. */
 etcd_part etcd_response(etcd_part of, int i);
+
+/* The next response of those that are left, one within another as well, which is left no more; empty where there is none. */
+etcd_part etcd_next(etcd_part *left);
 
 /* What stands behind "name": there, without its quote, or NULL. */
 const char *etcd_field(etcd_part in, const char *name);
