@@ -1,6 +1,5 @@
 #include "client.h"
 #include "gate.h"
-#include "mazzulpe_log.h"
 #include "mazzulpe_object.h"
 #include "prometheus.h"
 #include "storage.h"
@@ -38,14 +37,20 @@ static uint64_t microseconds(void) {
 
 /* ---- calls, under the lock */
 
-/* What has happened is in the log's file, and on the disk where that is wanted, without the lock. */
+/* What its log answered. */
+static void end_if_refused(client *e, mz_code c) {
+    if (c == MZ_LOG_FAILED && e->plan->home) e->plan->home->superseded();
+    if (c != MZ_OK) die("the log", c);
+}
+
+/* What has happened is in the log, and on the disk where that is wanted, without the lock. */
 static void write_ahead(client *e) {
     uint64_t until;
     mz_code c = mz_log_write(e->log, &until);
     pthread_mutex_unlock(&e->lock);
     if (c == MZ_OK) c = e->plan->synced ? mz_log_sync(e->log, until) : mz_log_flush(e->log, until);
+    end_if_refused(e, c);
     pthread_mutex_lock(&e->lock);
-    if (c != MZ_OK) die("the log", c);
 }
 
 /* Lets the lock go while the wire is carried. */
@@ -56,6 +61,7 @@ static mz_carried carry(void *context, const mz_wire *wire, mz_reply *reply, mz_
     int is_lost = e->plan->losing && (e->drawn = e->drawn * 1103515245u + 12345u) >> 28 == 0;
     e->plan->seen->redone += (uint64_t)mine.redo;
     pthread_mutex_unlock(&e->lock);
+    if (e->plan->home) e->plan->home->carries(&mine);
     mz_carried carried = storage_carry(&mine, reply, news);
     pthread_mutex_lock(&e->lock);
     e->plan->seen->restarts += carried == MZ_RESTARTED;
@@ -69,12 +75,19 @@ static void rest(client *e, mz_next stopped) {
     pthread_mutex_lock(&e->lock);
 }
 
+/* A data component answered what can't be: as it may where another has taken over, which the log says. */
+static void end_call(client *e, mz_code c) {
+    pthread_mutex_unlock(&e->lock);
+    if (e->plan->home) end_if_refused(e, mz_log_check(e->log));
+    die("a call", c);
+}
+
 /* Runs an admitted transaction until it is over, however long its data components are away. */
 static void run(client *e, uint64_t txn) {
     mz_next stopped = MZ_WAITS;
     while (stopped != MZ_OVER) {
         mz_code c = mz_run_until_over(e->tc, txn, carry, e, TRIES, &stopped);
-        if (c != MZ_OK || stopped == MZ_STUCK) die("a call", c);
+        if (c != MZ_OK || stopped == MZ_STUCK) end_call(e, c);
         if (stopped != MZ_OVER) rest(e, stopped);
     }
 }
@@ -140,14 +153,16 @@ static int is_kept(client *e, uint64_t mark) {
 /* Behind the closed gate. 0 where a data component is away: the log goes on as it was. */
 static int begins_anew(client *e) {
     uint64_t mark = mz_low_water(e->tc);
-    write_ahead(e); /* before storage is told of it */
+    if (!e->plan->marks_first) write_ahead(e); /* before storage is told of it */
+    e->plan->seen->keeps = 1;
     mz_code c = is_kept(e, mark) ? mz_log_checkpoint(e->log, mark) : MZ_BEHIND;
-    if (c == MZ_LOG_FAILED) die("the log", c);
+    e->plan->seen->keeps = 0;
+    if (c == MZ_LOG_FAILED) end_if_refused(e, c);
     return c == MZ_OK;
 }
 
 static void tell_metrics(client *e) {
-    if (!prometheus_write(e->metrics_path, e->tc, e->log, DCS)) die(e->metrics_path, MZ_OK);
+    if (!e->plan->home && !prometheus_write(e->metrics_path, e->tc, e->log, DCS)) die(e->metrics_path, MZ_OK);
 }
 
 /* By a thread with nothing open. */
@@ -170,7 +185,8 @@ static void *transfers(void *context) {
     for (uint64_t turn = s->told[w->number]; !s->last || e->done < e->plan->transfers; turn++) {
         const uint64_t args[] = {w->number, (turn * 7919 + w->number) % TARGETS, 1};
         if (call(e, MOVE, args, 3) != MZ_COMMITTED) die("a transfer", MZ_OK);
-        s->told[w->number]++;
+        __atomic_add_fetch(&s->told[w->number], 1, __ATOMIC_SEQ_CST);
+        if (e->plan->home) e->plan->home->tells();
         e->done++;
         if (e->plan->losing && turn % 2) call(e, TOUCH, args, 1);
         if (e->plan->between && !e->is_anew && mz_log_length(e->tc) > e->plan->between * EVENTS) checkpoint(e);
@@ -207,8 +223,10 @@ static void open_accounts(client *e) {
 
 static void come_back(client *e) {
     mz_log_found found;
-    mz_code c = mz_log_open(e->tc, e->log_path, &e->log, &found);
-    if (c != MZ_OK) die(e->log_path, c);
+    const log_home *home = e->plan->home;
+    mz_code c = home ? home->open(e->tc, &e->log, &found) : mz_log_open(e->tc, e->log_path, &e->log, &found);
+    if (c == MZ_LOG_FAILED && home) home->superseded();
+    if (c != MZ_OK) die(home ? "the log" : e->log_path, c);
     if (!storage_open(e->plan->folder, mz_session(e->tc))) die(e->plan->folder, MZ_MEMORY);
     end_open(e);
     if (!e->plan->seen->opened) open_accounts(e);
@@ -223,11 +241,47 @@ static int is_right(client *e, uint64_t untold) {
         if (!is_there(e, 0, t, &balance) || balance > OPENING) return 0;
         uint64_t made = OPENING - balance;
         if (made < s->told[t] || made > s->told[t] + untold) return 0;
-        s->told[t] = made;
+        if (!e->plan->home) s->told[t] = made;
         sum += balance;
     }
     for (uint64_t a = 0; a < TARGETS; a++) sum += is_there(e, 1, a, &balance) ? balance : 0;
     return sum == e->plan->threads * OPENING;
+}
+
+/* What the log says was written last: of an account at each data component. */
+typedef struct { int is_there; uint64_t balance; } row;
+typedef struct { row at[DCS][TARGETS + THREADS]; } rows;
+
+static void write_row(rows *all, const mz_event *asked) {
+    row *r = &all->at[asked->record.dc][asked->record.key];
+    r->is_there = asked->op != MZ_DELETE;
+    r->balance = mz_little(asked->value, 8);
+}
+
+/* 0 where the log was cut, so that it doesn't say all. */
+static int is_replayed(client *e, rows *all) {
+    mz_event event, *asked = (mz_event *)calloc(mz_last_number(e->tc) + 1, sizeof *asked);
+    int is_whole = asked != NULL;
+    for (uint64_t i = 0; is_whole && mz_log_at(e->tc, i, &event) == MZ_OK; i++) {
+        if (event.kind == MZ_EVENT_CHECKPOINT) is_whole = 0;
+        if (event.kind == MZ_EVENT_ASK || event.kind == MZ_EVENT_UNDO) asked[event.number] = event;
+        if (event.kind == MZ_EVENT_ANSWER && (event.said == MZ_DONE || event.said == MZ_DONE_WAS)) write_row(all, &asked[event.number]);
+    }
+    free(asked);
+    return is_whole;
+}
+
+/* Each balance is the one that was written last. */
+static int is_as_replayed(client *e) {
+    static rows all;
+    if (!is_replayed(e, &all)) return 1;
+    for (uint16_t d = 0; d < DCS; d++)
+        for (uint64_t a = 0; a < (d ? TARGETS : e->plan->threads); a++) {
+            uint64_t balance;
+            const row *r = &all.at[d][a];
+            if (is_there(e, d, a, &balance) != r->is_there || (r->is_there && balance != r->balance)) return 0;
+        }
+    return 1;
 }
 
 static void loaded(client *e, const plan *p) {
@@ -261,7 +315,7 @@ int client_live(const plan *p) {
     pthread_mutex_lock(&e.lock);
     come_back(&e);
     pthread_mutex_unlock(&e.lock);
-    if (!is_right_under_lock(&e, 1)) return 3;
+    if (!p->home && !is_right_under_lock(&e, 1)) return 3;
     uint64_t began = microseconds();
     for (uint64_t t = 0; t < p->threads; t++) {
         workers[t] = (worker){&e, t};
@@ -269,7 +323,17 @@ int client_live(const plan *p) {
     }
     for (uint64_t t = 0; t < p->threads; t++) pthread_join(threads[t], NULL);
     p->seen->took = microseconds() - began;
-    return is_right_under_lock(&e, 0) ? 0 : 3;
+    return p->home || is_right_under_lock(&e, 0) ? 0 : 3;
+}
+
+int client_check(const plan *p, uint64_t untold) {
+    static client e;
+    loaded(&e, p);
+    pthread_mutex_lock(&e.lock);
+    come_back(&e);
+    int right = is_as_replayed(&e) && is_right(&e, untold);
+    pthread_mutex_unlock(&e.lock);
+    return right ? 0 : 3;
 }
 
 uint64_t transfers_told(const plan *p) {

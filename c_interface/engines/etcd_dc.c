@@ -415,7 +415,7 @@ etcd_dc *etcd_dc_open(const char *members, uint64_t session) {
 
 void etcd_dc_close(etcd_dc *dc) {
     if (!dc) return;
-    for (int i = 0; i < PLACES; i++) etcd_hang_up(&dc->connections[i].to);
+    for (int i = 0; i < PLACES; i++) etcd_let_go(&dc->connections[i].to);
     free(dc->members);
     free(dc);
 }
