@@ -17,15 +17,16 @@ static const struct passwd *owner; /* who runs the servers: PostgreSQL refuses r
 /* What is made wrong, by SQL alone. */
 static const struct { const char *name, *sql; } controls[] = {
     {"forgetful",
-     "create function mz.forget() returns trigger language plpgsql as $$ begin return null; end $$;"
-     "create trigger forget before insert on mz.performed for each row execute function mz.forget()"},
+     "create function mz.forgets() returns trigger language plpgsql as $$ begin return null; end $$;"
+     "create trigger forget before insert on mz.performed for each row execute function mz.forgets();"
+     "create trigger forget before insert on mz.kept for each row execute function mz.forgets()"},
     {"untold",
      "create or replace function mz.begin_incarnation(known int8) returns void language sql as"
      " $$ insert into mz.alive select incarnation from mz.component $$"},
     {"raised",
      "create or replace function mz.raise_mark(w_session int8, w_incarnation int8, w_mark int8) returns bool language plpgsql as $$ begin"
      "  update mz.component set mark = greatest(mark, w_mark);"
-     "  delete from mz.performed where number <= w_mark; return true; end $$"},
+     "  perform mz.forget(w_mark); return true; end $$"},
     {"at_start",
      "create table mz.started as select pg_postmaster_start_time() as at;"
      "create or replace function mz.begin_incarnation(known int8) returns void language plpgsql as $$ begin"
@@ -36,21 +37,13 @@ static const struct { const char *name, *sql; } controls[] = {
      "  insert into mz.alive select incarnation from mz.component; end $$"},
 };
 
-/* One wire after the other. */
-static mz_carried receive(void *dc, int sent, const mz_wire *wires, size_t count, mz_reply *replies, mz_news *news) {
-    mz_carried carried = MZ_REPLIED;
-    (void)sent;
-    for (size_t i = 0; carried == MZ_REPLIED && i < count; i++) carried = postgres_dc_perform((postgres_dc *)dc, &wires[i], &replies[i], news);
-    return carried;
-}
-
 int storage_open(const char *folder, uint64_t session) {
     char words[400];
     for (int d = 0; d < DCS; d++) {
         snprintf(words, sizeof words, "host=%s port=%d user=postgres dbname=postgres", folder, 5432 + d);
         components[d] = postgres_dc_open(words, session, POSTGRES_DC_LATER);
         if (!components[d]) return 0;
-        storage_components[d] = (mz_batched){components[d], NULL, receive, MZ_BATCH};
+        storage_components[d] = postgres_dc_batched(components[d]);
     }
     return 1;
 }
@@ -67,6 +60,7 @@ void storage_fill(uint16_t dc, int full) {
         "    raise exception 'no room' using errcode = '53100'; end if;"
         "  return new; end $$;"
         "create or replace trigger no_room before insert on mz.performed for each row execute function mz.no_room();"
+        "create or replace trigger no_room before insert on mz.kept for each row execute function mz.no_room();"
         "create or replace trigger no_room before insert on mz.reserve for each row execute function mz.no_room();"
         "delete from mz.full; commit");
     if (full) (void)postgres_dc_execute(components[dc], "insert into mz.full values (true) returning set_config('synchronous_commit', 'on', true)");
