@@ -1,6 +1,6 @@
 #!/bin/sh
 # check_failover.sh HOME FAULTS [KINDS]: nodes that take over from one another over this home of their log (build/failover_HOME), with so many
-# faults; by `procd log --audit` of PROCD, where it is given, the log that is left. Then the controls, which have to be seen to lose.
+# faults; then the controls, which have to be seen to lose.
 set -e
 until_lost=60
 name=$1
@@ -16,6 +16,7 @@ nodes() {
     program=$1
     shift
     mkdir "$own"
+    chmod 711 "$own"
     at=$1
     which=$2
     shift 2
@@ -27,9 +28,6 @@ if ! nodes failover "$faults" "$kinds"; then
     exit 1
 fi
 echo "$name: $(cat "$folder/said")"
-if [ -n "$PROCD" ]; then
-    echo "$name: procd log: $("$PROCD" log --audit "$folder/failover/log" build/bank.o | tail -n 1)"
-fi
 
 # loses WHAT PROGRAM KINDS [CONTROL]
 loses() {

@@ -148,8 +148,15 @@ static const char *found(etcd_part in, const char *text) {
     return in.from ? (const char *)memmem(in.from, (size_t)(in.to - in.from), text, strlen(text)) : NULL;
 }
 
+static const char begins[] = "\"response_";
+
+etcd_part etcd_next(etcd_part *left) {
+    const char *at = found(*left, begins);
+    left->from = at ? found((etcd_part){at + 1, left->to}, begins) : NULL;
+    return (etcd_part){at, left->from ? left->from : left->to};
+}
+
 etcd_part etcd_response(etcd_part of, int i) {
-    static const char begins[] = "\"response_";
     for (const char *at = found(of, "\"responses\":"); at; i--) {
         at = found((etcd_part){at + 1, of.to}, begins);
         if (!at || i) continue;

@@ -35,6 +35,9 @@ etcd_part etcd_whole(const etcd_connection *c);
  * counts as the first of those behind. */
 etcd_part etcd_response(etcd_part of, int i);
 
+/* The next response of those that are left, one within another as well, which is left no more; empty where there is none. */
+etcd_part etcd_next(etcd_part *left);
+
 /* What stands behind "name": there, without its quote, or NULL. */
 const char *etcd_field(etcd_part in, const char *name);
 uint64_t etcd_number(etcd_part in, const char *name);

@@ -17,7 +17,7 @@ static inline void fault_seen(faults *f, const char *engine, const char *what) {
     pthread_mutex_lock(&f->lock);
     time_t now = time(NULL);
     if (strncmp(f->last, what, sizeof f->last - 1) || difftime(now, f->named) >= FAULT_NAMED_FOR) {
-        fprintf(stderr, "%s: %s\n", engine, what);
+        fprintf(stderr, "%s: %.200s\n", engine, what);
         memset(f->last, 0, sizeof f->last);
         memcpy(f->last, what, strnlen(what, sizeof f->last - 1));
         f->named = now;
