@@ -185,6 +185,39 @@ static void go_together(void) {
     closed(&b);
 }
 
+static mz_carried receive(void *of, int sent, const mz_wire *wires, size_t count, mz_reply *replies, mz_news *news) {
+    component *c = (component *)of;
+    mz_carried carried = MZ_REPLIED;
+    (void)sent;
+    pthread_mutex_lock(&c->lock);
+    c->batches++;
+    for (size_t i = 0; i < count && carried == MZ_REPLIED; i++) carried = performed(c, &wires[i], &replies[i], news);
+    pthread_mutex_unlock(&c->lock);
+    return carried;
+}
+
+/* Over components that take batches, of which one isn't there: its calls wait, and no others. */
+static void over_batches(void) {
+    static bank b;
+    static submitted calls[MANY + 1];
+    mz_batched component = {&b.s.of[0], NULL, receive, 16};
+    const mz_pool_options options = {0, REST, heard, &b.t};
+    opened(&b, 100, 1);
+    mz_pool_close(b.pool, LONG);
+    SEEN(mz_pool_open_batched(b.tc, b.log, NULL, 1, MANY, &options, &b.pool) == MZ_BAD_ARGUMENT);
+    SEEN(mz_pool_open_batched(b.tc, b.log, &component, 1, MANY, &options, &b.pool) == MZ_OK);
+    b.t.expected = MZ_NOT_OVER;
+    submit(&b, &calls[MANY], 0, "deposit_there", 1, 5);
+    submits(&b, calls, MANY, "deposit_here", 0, 1);
+    until(&b.t, &b.t.committed, MANY);
+    until(&b.t, &b.t.silences, 1);
+    mz_pool_close(b.pool, 0);
+    SEEN(b.t.told == MANY + 1 && b.t.by_code == 1 && b.s.of[0].batches >= 2 * MANY / 16);
+    for (uint64_t a = 0; a < MANY; a++) SEEN(balance_at(&b.s, 0, a) == 5);
+    put_away(&b);
+    storage_free(&b.s);
+}
+
 /* Calls on one record: each waits for the one before it, and none is tried at each end. */
 static void wait_in_order(void) {
     static bank b;
@@ -475,6 +508,7 @@ int main(void) {
     snprintf(path, sizeof path, "%s/log", folder);
     one_by_one();
     go_together();
+    over_batches();
     wait_in_order();
     nobody_starves();
     is_silent();
