@@ -79,7 +79,7 @@ static void start(int i) {
     *strrchr(sockets, '/') = 0;
     await_its_processes(servers[i].folder);
     const char *words[] = {postgres_program(name, sizeof name, "postgres"), "-D", servers[i].folder, "-k", sockets, "-p", port,
-                           "-c", "listen_addresses=", "-c", servers_synced ? "fsync=on" : "fsync=off", "-c", "shared_buffers=16MB", "-c", "max_connections=40",
+                           "-c", "listen_addresses=", "-c", servers_synced ? "fsync=on" : "fsync=off", "-c", "shared_buffers=16MB", "-c", "max_connections=100",
                            "-c", "log_min_messages=fatal", "-c", "log_min_error_statement=panic", NULL};
     servers[i].pid = process_begin(words, servers[i].output, owner);
 }
