@@ -377,14 +377,14 @@ impl<R: Clock> Gate for Watch<'_, R> {
         }
     }
 
-    // Only times are noted, and what delays calls is counted.
-    fn is_silent(&self) -> bool {
-        self.waits.calls.is_empty()
+    // Times are noted, and what delays calls is counted.
+    fn only_notes(&self) -> bool {
+        true
     }
 
-    // Nobody waits for it but where something is written.
+    // What is written for answers that one sync has kept is written together: to write each before the next call begins
+    // would take a sync for each.
     fn is_prompt(&self) -> bool {
-        let waits = self.waits;
-        waits.each.is_none() && waits.terminal.is_none() && waits.metrics.is_none()
+        true
     }
 }
