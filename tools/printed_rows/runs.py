@@ -284,8 +284,16 @@ def rows(_program):
     yield row("run --audit -", FOUR + EIGHT_MOVES, EIGHT_COMMITTED + "audit ok ended 9 open 0\n")
     # one record has room, and nine operations
     every = "dc 1 9\n" + PUT + GET + BAD + EVERY_CALL
-    yield row("run --workers 1 -", every, EVERY_ANSWERED)
+    full = b"full dc 0 9 operations\n"
+    for words in ["", "--partitions ", "--audit --partitions "]:
+        audit = "audit ok ended 7 open 2\n" if "audit" in words else ""
+        yield Row(f"run {words}--workers 1 -".split(), every.encode(), (EVERY_ANSWERED + audit).encode(), 0, full)
     yield Row("run --tell --workers 1 -".split(), every.encode(), EVERY_ANSWERED.encode(), 0, EVERY_TOLD.encode())
+    # each that is full, in their order: of two partitions, and one that no call reaches
+    apart = "dc 1 1\ndc 1 9\ndc 1 0\n" + GET + GET.replace("proc get", "proc other").replace("slot read 0", "slot read 1") + "call get 5\ncall other 5\n"
+    for words in ["", "--partitions "]:
+        told = b"full dc 0 1 operations\nfull dc 2 0 operations\n"
+        yield Row(f"run {words}-".split(), apart.encode(), b"call 0 aborted 1\ncall 1 aborted 1\n", 0, told)
     yield row("run --results --workers 1 -", FOUR + RESULTS, RESULTS_PRINTED)
     yield row("run --results --audit --workers 1 -", FOUR + "call put 5 7\n", "call 0 committed\nresult 0 0 7\nrow 0/0/5 7\naudit ok ended 1 open 0\n")
     yield row("run --workers 64 -", FIRST, FIRST_ANSWERED)

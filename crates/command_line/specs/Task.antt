@@ -68,7 +68,8 @@ reads_text (Run workers tries stats audit results tell metrics trace log checkpo
 reads_text (Partitioned workers tries audit log script) = is_none script
 reads_text (Log wanted) = false
 
--- whether there may be something to tell on standard error: a run that is asked for its figures
-abbrev pub wants_figures : Wish → Bool
-wants_figures (Run workers tries stats audit results tell metrics trace log checkpoint over script) = stats
-wants_figures other = false
+-- whether there may be something to tell on standard error: a run's figures, or which data components are full
+abbrev pub may_tell : Wish → Bool
+may_tell (Run workers tries stats audit results tell metrics trace log checkpoint over script) = true
+may_tell (Partitioned workers tries audit log script) = true
+may_tell other = false

@@ -112,16 +112,13 @@ pub enum LogTask<'a> {
 
 impl Task<'_> {
     ghost use Rattle.std.specs.Prelude.{◌≡◌};
-    ghost use Rattle.command_line.specs.Task.{wants_figures, wish_of};
+    ghost use Rattle.command_line.specs.Task.{may_tell, wish_of};
 
-    /// Whether figures are to be told on standard error.
-    pub fn wants_figures(&self) -> bool
-        ensures { result ≡ wants_figures (wish_of self.now) }
+    /// Whether there may be something to tell on standard error: a run's figures, or which data components are full.
+    pub fn may_tell(&self) -> bool
+        ensures { result ≡ may_tell (wish_of self.now) }
     {
-        match self {
-            Task::Run(task) => task.stats,
-            _ => false,
-        }
+        matches!(self, Task::Run(_) | Task::Partitioned(_))
     }
 }
 

@@ -28,6 +28,8 @@ use Rattle.tc_core.specs.Admission.{call_of}
 use Rattle.tc_core.specs.Core.{Core}
 use Rattle.tc_core.specs.declared.state.Call.{Call}
 use Rattle.worker_pool.specs.declared.answer.Answer.{Answer}
+use Rattle.run_calls.specs.Figures.{full_line, full_lines}
+use Rattle.run_calls.proofs.FullLemmas.{lines_push}
 use Rattle.run_ground.specs.declared.ground.Ground.{Ground}
 use Rattle.run_calls.specs.Answered.{AreCallsOf, said_call, is_want_of_memory}
 use Rattle.run_calls.specs.AnswerLines.{answer_lines, fault_line}
@@ -356,6 +358,26 @@ kept_more numbers grounds dcs i d kept rows old lines new lt done here is are mo
     ∙ ap (λ (k : Store). kept_from numbers grounds 0 (take i dcs) ++ k ∷ []) (ap (λ (n : ℕ). kept_dc numbers grounds n (get_or dcs i d)) place
     ∙ (ap (λ (empty : Store). kept_dc numbers grounds i empty) (sym here) ∙ sym is))) in
     subst (λ (ds : List Store). AddsRowLines ds old new) (sym next) added
+
+kept_length : (numbers : List ℕ) (grounds : List (Option Ground)) (dc : ℕ) (dcs : List Store) → length (kept_from numbers grounds dc dcs) ≡ length dcs
+kept_length numbers grounds dc [] = refl
+kept_length numbers grounds dc (empty ∷ dcs) = ap (λ (n : ℕ). n + 1) (kept_length numbers grounds (dc + 1) dcs)
+
+-- behind the lines of those that are full comes that of the next
+pub full_more : (numbers : List ℕ) (grounds : List (Option Ground)) (dcs : List Store) (i : ℕ) (d kept : Store) (text new : List ℕ) → i < length dcs
+    → text ≡ full_lines (kept_dcs numbers grounds (take i dcs)) → d ≡ get_or dcs i d → kept ≡ kept_dc numbers grounds i d
+    → new ≡ text ++ full_line i kept → new ≡ full_lines (kept_dcs numbers grounds (take (i + 1) dcs))
+full_more numbers grounds dcs i d kept text new lt so_far here is more =
+    let before = kept_from numbers grounds 0 (take i dcs) in
+    let place : 0 + length (take i dcs) ≡ i = omega (arith, length-take-le i dcs (omega (arith, lt))) in
+    let count : 0 + length before ≡ i = ap (λ (n : ℕ). 0 + n) (kept_length numbers grounds 0 (take i dcs)) ∙ place in
+    let next : kept_from numbers grounds 0 (take (i + 1) dcs) ≡ before ++ kept ∷ [] =
+    ap (kept_from numbers grounds 0) (take_more dcs i d lt)
+    ∙ (kept_push numbers grounds 0 (take i dcs) (get_or dcs i d)
+    ∙ ap (λ (k : Store). before ++ k ∷ []) (ap (λ (n : ℕ). kept_dc numbers grounds n (get_or dcs i d)) place
+    ∙ (ap (λ (empty : Store). kept_dc numbers grounds i empty) (sym here) ∙ sym is))) in
+    more ∙ (ap (λ (l : List ℕ). l ++ full_line i kept) so_far
+    ∙ sym (ap full_lines next ∙ (lines_push 0 before kept ∙ ap (λ (n : ℕ). full_lines before ++ full_line n kept) count)))
 
 and_assoc : (a b c : Bool) → (a && (b && c)) ≡ ((a && b) && c)
 and_assoc true b c = refl

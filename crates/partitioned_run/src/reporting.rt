@@ -4,6 +4,7 @@ ghost use Rattle.std.specs.Prelude.{◌≡◌, ◌++◌, ◌&&◌, [], ◌∷◌
 ghost use Rattle.std.specs.List.{list_any};
 ghost use Rattle.run_ground.specs.declared.stop.Stop.{Stop as StopValue};
 ghost use Rattle.run_calls.specs.AnswerLines.{answer_lines};
+ghost use Rattle.run_calls.specs.Figures.{full_lines};
 ghost use Rattle.state_lines.specs.RowLines.{AddsRowLines};
 ghost use Rattle.run_calls.specs.Answered.{is_want_of_memory};
 ghost use Rattle.partitioned_run.specs.Partitioned.{AddsAuditOf, AddsAudits, dc_behind, kept_dc, kept_dcs};
@@ -17,6 +18,7 @@ use data_component::dc::Dc;
 use partitions::Partitions;
 use run_calls::answer_lines::write_answers;
 use run_calls::answering::has_want_of_memory;
+use run_calls::figures::full_line;
 use run_ground::ground::Ground;
 use run_ground::stop::Stop;
 use state_lines::audit_lines::write_audit_if;
@@ -156,6 +158,24 @@ pub fn write_kept(
         write_rows(alloc, kept.rows(), lines)?;
     }
     Ok(())
+}
+
+/// A line for each data component that is full behind the calls of its partition.
+pub fn full_kept(
+    alloc: Global,
+    partitions: &Partitions,
+    grounds: &[Option<Ground>],
+    empty: &[Dc],
+) -> Result<String, AllocError>
+    ensures { IfOk result (λ text. string_bytes text ≡ full_lines (kept_dcs partitions.now grounds.now empty.now)) }
+{
+    let mut text = String::new(alloc);
+    for (number, dc) in empty.iter().enumerate() {
+        let kept = kept_dc(partitions, grounds, number, dc);
+        let line = full_line(alloc, number, kept)?;
+        text.push_str(line.as_str())?;
+    }
+    Ok(text)
 }
 
 // Adds the line of an audit of a partition, where it has calls and that is wanted, and answers whether nothing is wrong.

@@ -4,8 +4,7 @@ ghost use Rattle.std.specs.Prelude.{◌≡◌};
 ghost use Rattle.run_calls.specs.Outcomes.{outcome_of, phase_of};
 
 use crate::answer_lines::answer_line;
-use crate::figures::{Latencies, Watched, full_dcs, name_at};
-use data_component::dc::Dc;
+use crate::figures::{Latencies, Watched, name_at};
 use run_metrics::{Delays, Kind, Metrics, Outcome, OutputFile, Phase, Trace};
 use scripts::script;
 use std::alloc::{AllocError, Global};
@@ -279,16 +278,6 @@ impl Waits {
         let is_told = self.told.load(Ordering::SeqCst) > 0;
         if let (Some(mut terminal), true) = (self.terminal, is_told) {
             let _ = terminal.write_all(b"\n");
-        }
-    }
-
-    /// Tells who listens which of these data components are full, by a line for each.
-    pub fn tell_full(&self, dcs: &[Dc]) {
-        let Some(mut listener) = self.each.or(self.terminal) else {
-            return;
-        };
-        if let Ok(lines) = full_dcs(self.alloc, dcs) {
-            let _ = listener.write_all(lines.as_bytes());
         }
     }
 

@@ -13,8 +13,8 @@ merged-requires-2 c =
     rw (c.as_slice-3.ensures.value, c.as_slice-4.ensures.value)
     (calls_fit (contents_of c.args.task.script.now) c.args.task.division.now c.requires.run.starts c.args.all.now c.requires.divided c.requires.run.run)
 
-pub returns : goal.returns
-returns c =
+pub returns-clause-so : goal.returns-clause-so
+returns-clause-so c =
     run_so (is_some c.args.task.log) (contents_of c.args.task.script.now) c.args.task.division.now (string_bytes c.args.front) c.args.all.now
     c.in_ok-first.first.items c.in_ok-calls.calls.items c.args.task.manner.audit (string_bytes c.in_ok-lines.lines)
     (string_bytes c.write_kept.new.lines) (string_bytes c.write_audits.new.lines) c.in_ok-sound.sound c.status_of.result c.args.empty.now
