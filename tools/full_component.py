@@ -1,6 +1,7 @@
 #!/usr/bin/env python3
 """Runs reads over a data component that is full, ten times as many the second time: each call beyond its room is in doubt
-by the rule, the component and its count are named whatever the options, and the run takes a processor's time in proportion.
+by the rule, the component and its count are named whatever the options, `--strict` says so by the status, and the run takes
+a processor's time in proportion.
 
 usage: tools/full_component.py [--procd PATH] [--reads N]
 
@@ -50,7 +51,7 @@ def seconds_of(program, reads, faults):
 def check_told(program, faults):
     """What is told of the component, and the status, whatever the options."""
     script = (SCRIPT + "call look 1\n" * (ROOM + 1)).encode()
-    for words, status in ([], 0), (["--partitions"], 0):
+    for words, status in ([], 0), (["--partitions"], 0), (["--strict"], 1), (["--partitions", "--strict"], 1):
         ran = program.run(["run", *words, "-"], script)
         if (ran.status, ran.err) != (status, b"full dc 0 %d operations\n" % ROOM):
             faults.append(f"{words}: status {ran.status}, and {ran.err!r}")

@@ -1,5 +1,5 @@
 """`run`: calls by workers, their answers and the rows."""
-from procedures import BAD, FOUR, GET, MOVE, PUT
+from procedures import BAD, FOUR, GET, MOVE, PUT, four
 from .row import Row, refused, row
 
 # Each data component has room for another number of records.
@@ -122,6 +122,14 @@ told 8 blocked 0/0/5
 told 9 in doubt 11
 full dc 0 9 operations
 """
+
+# What is done, and what counts as failed where that is asked for; calls of the first list don't.
+STRICT = [
+    ("call put 5 1\ncall get 6\ncall bad 5\n", "call 0 committed\ncall 1 aborted 1\ncall 2 aborted 5\nrow 0/0/5 1\n", 0),
+    ("first put 5 1\nfirst put 6 1\n", "first 0 committed\nfirst 1 noroom\nrow 0/0/5 1\n", 0),
+    ("call put 5 1\ncall put 6 1\n", "call 0 committed\ncall 1 noroom\nrow 0/0/5 1\n", 1),
+    ("call get\n", "call 0 refused B5 ArgumentCount\n", 1),
+]
 
 # Each call that committed with what its slots hold, the last with no record: it deletes through one slot what it read through the other.
 RESULTS = """\
@@ -288,12 +296,16 @@ def rows(_program):
     for words in ["", "--partitions ", "--audit --partitions "]:
         audit = "audit ok ended 7 open 2\n" if "audit" in words else ""
         yield Row(f"run {words}--workers 1 -".split(), every.encode(), (EVERY_ANSWERED + audit).encode(), 0, full)
+        yield Row(f"run --strict {words}--workers 1 -".split(), every.encode(), (EVERY_ANSWERED + audit).encode(), 1, full)
     yield Row("run --tell --workers 1 -".split(), every.encode(), EVERY_ANSWERED.encode(), 0, EVERY_TOLD.encode())
     # each that is full, in their order: of two partitions, and one that no call reaches
     apart = "dc 1 1\ndc 1 9\ndc 1 0\n" + GET + GET.replace("proc get", "proc other").replace("slot read 0", "slot read 1") + "call get 5\ncall other 5\n"
     for words in ["", "--partitions "]:
         told = b"full dc 0 1 operations\nfull dc 2 0 operations\n"
         yield Row(f"run {words}-".split(), apart.encode(), b"call 0 aborted 1\ncall 1 aborted 1\n", 0, told)
+    for calls, answered, status in STRICT:
+        for words in ["", "--partitions "]:
+            yield row(f"run --strict {words}--workers 1 -", four("dc 1 99\n") + calls, answered, status)
     yield row("run --results --workers 1 -", FOUR + RESULTS, RESULTS_PRINTED)
     yield row("run --results --audit --workers 1 -", FOUR + "call put 5 7\n", "call 0 committed\nresult 0 0 7\nrow 0/0/5 7\naudit ok ended 1 open 0\n")
     yield row("run --workers 64 -", FIRST, FIRST_ANSWERED)

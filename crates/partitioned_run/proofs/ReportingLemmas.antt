@@ -31,7 +31,7 @@ use Rattle.worker_pool.specs.declared.answer.Answer.{Answer}
 use Rattle.run_calls.specs.Figures.{full_line, full_lines}
 use Rattle.run_calls.proofs.FullLemmas.{lines_push}
 use Rattle.run_ground.specs.declared.ground.Ground.{Ground}
-use Rattle.run_calls.specs.Answered.{AreCallsOf, said_call, is_want_of_memory}
+use Rattle.run_calls.specs.Answered.{AreCallsOf, said_call, is_want_of_memory, run_status}
 use Rattle.run_calls.specs.AnswerLines.{answer_lines, fault_line}
 use Rattle.run_calls.specs.Stops.{Stops}
 use Rattle.run_ground.specs.declared.stop.Stop.{Stop}
@@ -204,7 +204,7 @@ module _ (c : Contents) (d : Division) (starts : List Start) (all : Outcomes) (n
 
   -- what is printed of them
   pub run_apart : (IsAnswered : ℕ → (first calls : List said.Call) → (first_answers other_answers : List Answer) → Option Ground → Type 0)
-      (front : List ℕ) (first_answers other_answers : List Answer) (audit : Bool) (answered kept lines : List ℕ) (sound : Bool) (status : ℕ)
+      (front : List ℕ) (first_answers other_answers : List Answer) (audit strict : Bool) (answered kept lines : List ℕ) (sound : Bool) (status : ℕ)
       (empty : List Store)
       → ((p : ℕ) (behind : Option Ground) → slice_get all.grounds.items p ≡ Some behind
       → AreRunFrom (begun c) (empty_stores c) starts p
@@ -220,9 +220,9 @@ module _ (c : Contents) (d : Division) (starts : List Start) (all : Outcomes) (n
       → (list_any is_want_of_memory first_answers ≡ false) × (list_any is_want_of_memory other_answers ≡ false)
       → answered ≡ front ++ (answer_lines (codes "first") first_answers ++ answer_lines (codes "call") other_answers) → empty ≡ empty_stores c
       → AddsRowLines (kept_dcs d.partitions all.grounds.items empty) answered kept → AddsAudits audit all.grounds.items kept lines sound
-      → status ≡ (if sound then 0 else 1)
-      → AreRunApart IsAnswered front (begun c).procs (empty_stores c) c.first c.calls audit status lines
-  run_apart IsAnswered front first_answers other_answers audit answered kept lines sound status empty so firsts others ample told empty_is rows found status_is = record {
+      → status ≡ run_status strict other_answers sound
+      → AreRunApart IsAnswered front (begun c).procs (empty_stores c) c.first c.calls audit strict status lines
+  run_apart IsAnswered front first_answers other_answers audit strict answered kept lines sound status empty so firsts others ample told empty_is rows found status_is = record {
     numbers = d.partitions;
     partitions = partitions_are c d numbered;
     first_answers = first_answers;
@@ -250,28 +250,28 @@ plain_from start dcs ground first calls first_answers other_answers behind none 
     subst (λ (g : Option Ground). IsRunFrom start dcs g first calls first_answers other_answers behind) none from
 
 -- with files or without any
-pub run_so : (keeps : Bool) (c : Contents) (d : Division) (front : List ℕ) (all : Outcomes) (first_answers other_answers : List Answer) (audit : Bool)
+pub run_so : (keeps : Bool) (c : Contents) (d : Division) (front : List ℕ) (all : Outcomes) (first_answers other_answers : List Answer) (audit strict : Bool)
     (answered kept lines : List ℕ) (sound : Bool) (status : ℕ) (empty : List Store) → AreDivided c d → HaveRun keeps c d front all
     → IsMerged d.first.items all.first.items first_answers → IsMerged d.calls.items all.calls.items other_answers
     → (list_any is_want_of_memory first_answers ≡ false) × (list_any is_want_of_memory other_answers ≡ false)
     → answered ≡ front ++ (answer_lines (codes "first") first_answers ++ answer_lines (codes "call") other_answers) → empty ≡ empty_stores c
     → AddsRowLines (kept_dcs d.partitions all.grounds.items empty) answered kept → AddsAudits audit all.grounds.items kept lines sound
-    → status ≡ (if sound then 0 else 1) → IsRunSo keeps c audit status lines
+    → status ≡ run_status strict other_answers sound → IsRunSo keeps c audit strict status lines
 unfolding run_apart
-run_so true c d front all first_answers other_answers audit answered kept lines sound status empty numbered h firsts others ample told empty_is rows found status_is =
+run_so true c d front all first_answers other_answers audit strict answered kept lines sound status empty numbered h firsts others ample told empty_is rows found status_is =
     let said = answer_lines (codes "first") first_answers ++ answer_lines (codes "call") other_answers in
     record {
       starts = h.starts;
       run = run_apart c d h.starts all numbered h.run (AreRunFrom (begun c) (empty_stores c) h.starts) (front_lines h.starts) first_answers other_answers
-          audit answered kept lines sound status empty (λ p behind is from. from) firsts others ample
+          audit strict answered kept lines sound status empty (λ p behind is from. from) firsts others ample
           (told ∙ ap (λ (f : List ℕ). f ++ said) h.told) empty_is rows found status_is;
       each = sym h.run.grounds;
       back = h.are;
     }
-run_so false c d front all first_answers other_answers audit answered kept lines sound status empty numbered h firsts others ample told empty_is rows found status_is =
+run_so false c d front all first_answers other_answers audit strict answered kept lines sound status empty numbered h firsts others ample told empty_is rows found status_is =
     let said = answer_lines (codes "first") first_answers ++ answer_lines (codes "call") other_answers in
     run_apart c d h.starts all numbered h.run (λ _. IsAnsweredBy (begun c) (empty_stores c)) [] first_answers other_answers
-    audit answered kept lines sound status empty
+    audit strict answered kept lines sound status empty
     (λ p behind is from.
     let s = found_at h.starts p (omega (arith, slice_get_within all.grounds.items p behind is, h.run.grounds)) in
     plain_from _ _ s.0.ground _ _ _ _ behind (no_start (begun c) (empty_stores c) d.partitions p s.0.ground s.0.lines (h.are p s.0 s.1).1).0 (from s.0 s.1))
@@ -280,30 +280,30 @@ run_so false c d front all first_answers other_answers audit answered kept lines
 
 -- ---- the report of calls none of which is begun
 
-pub stopped_so : (keeps : Bool) (c : Contents) (workers tries : ℕ) (audit : Bool) (stop : Stop) (status : ℕ) (lines : List ℕ) → Stops false workers tries stop
-    → fault_line stop ≡ Some lines → status ≡ 1 → IsContentsRun keeps c workers tries audit status lines
-stopped_so false c workers tries audit stop status lines stops line is = Stopped stop stops is line
-stopped_so true c workers tries audit stop status lines stops line is = Behind (Stopped stop stops is line)
+pub stopped_so : (keeps : Bool) (c : Contents) (workers tries : ℕ) (audit strict : Bool) (stop : Stop) (status : ℕ) (lines : List ℕ) → Stops false workers tries stop
+    → fault_line stop ≡ Some lines → status ≡ 1 → IsContentsRun keeps c workers tries audit strict status lines
+stopped_so false c workers tries audit strict stop status lines stops line is = Stopped stop stops is line
+stopped_so true c workers tries audit strict stop status lines stops line is = Behind (Stopped stop stops is line)
 
-ran_so : (keeps : Bool) (c : Contents) (workers tries : ℕ) (audit : Bool) (status : ℕ) (lines : List ℕ) → InRange workers tries
-    → IsRunSo keeps c audit status lines → IsContentsRun keeps c workers tries audit status lines
-ran_so false c workers tries audit status lines range run = Begun range run
-ran_so true c workers tries audit status lines range run = Behind (Begun range run)
+ran_so : (keeps : Bool) (c : Contents) (workers tries : ℕ) (audit strict : Bool) (status : ℕ) (lines : List ℕ) → InRange workers tries
+    → IsRunSo keeps c audit strict status lines → IsContentsRun keeps c workers tries audit strict status lines
+ran_so false c workers tries audit strict status lines range run = Begun range run
+ran_so true c workers tries audit strict status lines range run = Behind (Begun range run)
 
-pub ran_apart : {E : Type 0} (keeps : Bool) (c : Contents) (workers tries : ℕ) (audit : Bool) (report : Result Output E) → InRange workers tries
-    → IfOk report (λ r. IsRunSo keeps c audit r.status (string_bytes r.lines))
-    → IfOk report (λ r. IsContentsRun keeps c workers tries audit r.status (string_bytes r.lines))
-ran_apart keeps c workers tries audit (Ok r) range run = ran_so keeps c workers tries audit r.status (string_bytes r.lines) range run
-ran_apart keeps c workers tries audit (Err e) range run = tt
+pub ran_apart : {E : Type 0} (keeps : Bool) (c : Contents) (workers tries : ℕ) (audit strict : Bool) (report : Result Output E) → InRange workers tries
+    → IfOk report (λ r. IsRunSo keeps c audit strict r.status (string_bytes r.lines))
+    → IfOk report (λ r. IsContentsRun keeps c workers tries audit strict r.status (string_bytes r.lines))
+ran_apart keeps c workers tries audit strict (Ok r) range run = ran_so keeps c workers tries audit strict r.status (string_bytes r.lines) range run
+ran_apart keeps c workers tries audit strict (Err e) range run = tt
 
 -- the file of a partition is refused
-pub refused_apart : (keeps : Bool) (c : Contents) (d : Division) (workers tries : ℕ) (audit : Bool) (report : Output) → AreDivided c d
+pub refused_apart : (keeps : Bool) (c : Contents) (d : Division) (workers tries : ℕ) (audit strict : Bool) (report : Output) → AreDivided c d
     → (keeps ≡ true) × ((p : ℕ) × IsRefusedAt (begun c) (empty_stores c) d.partitions p report)
-    → IsContentsRun keeps c workers tries audit report.status (string_bytes report.lines)
-refused_apart true c d workers tries audit report numbered h =
+    → IsContentsRun keeps c workers tries audit strict report.status (string_bytes report.lines)
+refused_apart true c d workers tries audit strict report numbered h =
     let at = h.1.1 in
     Refused d.partitions (partitions_are c d numbered) h.1.0 at.1.0 at.1.1 at.0 at.1.2
-refused_apart false c d workers tries audit report numbered h = absurd (cc)
+refused_apart false c d workers tries audit strict report numbered h = absurd (cc)
 
 -- ---- what was read is what the script says
 
@@ -329,12 +329,12 @@ may_be_run object b (accepted.Accepted a) is = (
 )
 may_be_run object b (accepted.Refused report) is = is
 
-pub accepted_run : (keeps : Bool) (b : Beginning) (s : Script) (workers tries : ℕ) (audit : Bool) (status : ℕ) (lines : List ℕ) → b.refusal ≡ None
-    → contents_of s ≡ b.contents → IsContentsRun keeps (contents_of s) workers tries audit status lines
-    → IsPartitionedRun keeps workers tries audit b status lines
-accepted_run keeps b s workers tries audit status lines none is run =
-    subst (λ (refusal : Option (List ℕ)). IsPartitionedBy keeps refusal b.contents workers tries audit status lines) (sym none)
-    (subst (λ (c : Contents). IsContentsRun keeps c workers tries audit status lines) is run)
+pub accepted_run : (keeps : Bool) (b : Beginning) (s : Script) (workers tries : ℕ) (audit strict : Bool) (status : ℕ) (lines : List ℕ) → b.refusal ≡ None
+    → contents_of s ≡ b.contents → IsContentsRun keeps (contents_of s) workers tries audit strict status lines
+    → IsPartitionedRun keeps workers tries audit strict b status lines
+accepted_run keeps b s workers tries audit strict status lines none is run =
+    subst (λ (refusal : Option (List ℕ)). IsPartitionedBy keeps refusal b.contents workers tries audit strict status lines) (sym none)
+    (subst (λ (c : Contents). IsContentsRun keeps c workers tries audit strict status lines) is run)
 
 -- ---- one data component more, and one audit more
 

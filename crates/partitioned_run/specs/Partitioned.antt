@@ -18,7 +18,7 @@ use Rattle.worker_pool.specs.declared.answer.Answer.{Answer}
 use Rattle.run_ground.specs.declared.ground.Ground.{Ground}
 use Rattle.run_ground.specs.declared.stop.Stop.{Stop}
 use Rattle.run_calls.specs.AnswerLines.{answer_lines, fault_line}
-use Rattle.run_calls.specs.Answered.{AreCallsOf, AreAnswered, AreServed, is_want_of_memory}
+use Rattle.run_calls.specs.Answered.{AreCallsOf, AreAnswered, AreServed, is_want_of_memory, run_status}
 use Rattle.script_loading.specs.Loading.{begun, empty_stores}
 use Rattle.run_calls.specs.Stops.{Stops}
 
@@ -91,7 +91,7 @@ AddsAudits audit (behind ∷ grounds) old new sound =
 -- front those of all answers are printed in the order of the calls, none of which is want of memory, then the rows of each data component behind
 -- the calls of its partition, and then, where it is wanted, what an audit finds of each partition that came to something
 pub record AreRunApart (IsAnswered : ℕ → (first calls : List said.Call) → (first_answers other_answers : List Answer) → Option Ground → Type 0)
-    (front : List ℕ) (procs : List Checked) (dcs : List Store) (first calls : List said.Call) (audit : Bool) (status : ℕ) (lines : List ℕ)
+    (front : List ℕ) (procs : List Checked) (dcs : List Store) (first calls : List said.Call) (audit strict : Bool) (status : ℕ) (lines : List ℕ)
     : Type 0 where
   pub numbers : List ℕ
   pub partitions : ArePartitions (length dcs) (map decl_of procs) numbers
@@ -112,7 +112,7 @@ pub record AreRunApart (IsAnswered : ℕ → (first calls : List said.Call) → 
       (front ++ (answer_lines (codes "first") first_answers ++ answer_lines (codes "call") other_answers)) kept
   pub sound : Bool
   pub found : AddsAudits audit grounds kept lines sound
-  pub status_is : status ≡ (if sound then 0 else 1)
+  pub status_is : status ≡ run_status strict other_answers sound
 
 -- they are run so, whatever they are answered, or it is printed why not
 pub data IsCallsRunApart (Run : Type 0) (workers tries status : ℕ) (lines : List ℕ) : Type 0 where
@@ -121,6 +121,6 @@ pub data IsCallsRunApart (Run : Type 0) (workers tries status : ℕ) (lines : Li
       → IsCallsRunApart Run workers tries status lines
 
 -- those of a script, none of whose partitions has a log's file: each begins with a state in which nothing has happened
-abbrev pub IsRunApart : Contents → Bool → ℕ → List ℕ → Type 0
-IsRunApart c audit status lines =
-    AreRunApart (λ _. IsAnsweredBy (begun c) (empty_stores c)) [] (begun c).procs (empty_stores c) c.first c.calls audit status lines
+abbrev pub IsRunApart : Contents → Bool → Bool → ℕ → List ℕ → Type 0
+IsRunApart c audit strict status lines =
+    AreRunApart (λ _. IsAnsweredBy (begun c) (empty_stores c)) [] (begun c).procs (empty_stores c) c.first c.calls audit strict status lines

@@ -1,6 +1,6 @@
 //! What is printed of the calls of all partitions.
 
-ghost use Rattle.std.specs.Prelude.{◌≡◌, ◌++◌, ◌&&◌, [], ◌∷◌, List, Result, false, if◌then◌else◌, IfOk, OnOk, codes, string_bytes};
+ghost use Rattle.std.specs.Prelude.{◌≡◌, ◌++◌, ◌&&◌, [], ◌∷◌, List, Result, false, IfOk, OnOk, codes, string_bytes};
 ghost use Rattle.std.specs.List.{list_any};
 ghost use Rattle.run_ground.specs.declared.stop.Stop.{Stop as StopValue};
 ghost use Rattle.run_calls.specs.AnswerLines.{answer_lines};
@@ -259,11 +259,4 @@ pub fn check_names<F: Files<File = File>>(
         check_name(rt, alloc, log, number, ground)?;
     }
     Ok(())
-}
-
-/// The exit status.
-pub fn status_of(sound: bool) -> u8
-    ensures { result ≡ (if sound then 0 else 1) }
-{
-    u8::from(!sound)
 }

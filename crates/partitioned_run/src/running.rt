@@ -19,13 +19,13 @@ use crate::grounds::{Start, Task};
 pub use crate::recovering::file_of;
 use crate::recovering::{front_lines, starts_of};
 use crate::reporting::{
-    Outcomes, answered_lines, check_names, full_kept, lack_memory, outcomes_of, status_of,
-    write_audits, write_kept,
+    Outcomes, answered_lines, check_names, full_kept, lack_memory, outcomes_of, write_audits,
+    write_kept,
 };
 use data_component::dc::Dc;
 use partitions::merged;
 use report_texts::output::Output;
-use run_calls::answering::Manner;
+use run_calls::answering::{Manner, run_status};
 use run_calls::figures::notes_of;
 use run_calls::stop::{of_manner, stopped};
 use run_calls::watching::{Listeners, Waits};
@@ -51,7 +51,7 @@ fn reported(
     requires divided { AreDivided (contents_of task.script.now) task.division.now }
     requires empty { empty.now ≡ empty_stores (contents_of task.script.now) }
     requires run { HaveRun (is_some task.log) (contents_of task.script.now) task.division.now (string_bytes front) all.now }
-    ensures so { IfOk result (λ r. IsRunSo (is_some task.entry.log) (contents_of task.entry.script.now) task.entry.manner.audit
+    ensures so { IfOk result (λ r. IsRunSo (is_some task.entry.log) (contents_of task.entry.script.now) task.entry.manner.audit task.entry.manner.strict
         r.status (string_bytes r.lines)) }
     ensures full { IfOk result (λ r. AreNotes [] (kept_dcs task.entry.division.now.partitions all.now.grounds.items empty.now) r.notes) }
 {
@@ -67,7 +67,7 @@ fn reported(
     let sound = write_audits(alloc, task.manner.audit, grounds, &mut lines)?;
     let full = full_kept(alloc, &division.partitions, grounds, empty)?;
     Ok(Output {
-        status: status_of(sound),
+        status: run_status(task.manner.strict, calls.as_slice(), sound),
         lines,
         notes: notes_of(alloc, full, &[])?,
     })
@@ -83,7 +83,7 @@ fn reported_if_named<F: Files<File = File>>(
 ) -> Result<Output, Fault>
     requires divided { AreDivided (contents_of task.script.now) task.division.now }
     requires run { HaveRun (is_some task.log) (contents_of task.script.now) task.division.now (string_bytes front) all.now }
-    ensures { IfOk result (λ r. IsRunSo (is_some task.entry.log) (contents_of task.entry.script.now) task.entry.manner.audit
+    ensures { IfOk result (λ r. IsRunSo (is_some task.entry.log) (contents_of task.entry.script.now) task.entry.manner.audit task.entry.manner.strict
         r.status (string_bytes r.lines)) }
 {
     if let Some(log) = task.log {
@@ -105,7 +105,7 @@ fn run_started<R: Files<File = File> + Clock + Threads + Wait + Sync>(
     requires starts { AreStarts (is_some task.log) (begun (contents_of task.script.now)) (empty_stores (contents_of task.script.now))
         task.division.now.partitions starts.items }
     ensures { InRange task.entry.manner.workers task.entry.manner.tries → IfOk result (λ r. IsContentsRun (is_some task.entry.log)
-        (contents_of task.entry.script.now) task.entry.manner.workers task.entry.manner.tries task.entry.manner.audit
+        (contents_of task.entry.script.now) task.entry.manner.workers task.entry.manner.tries task.entry.manner.audit task.entry.manner.strict
         r.status (string_bytes r.lines)) }
 {
     let front = match front_lines(alloc, starts.as_slice()) {
@@ -143,7 +143,7 @@ fn run_divided<R: Files<File = File> + Clock + Threads + Wait + Sync>(
 ) -> Result<Output, Fault>
     requires { IsDivided (option_map (λ file. file.now) task.object) task.script.now task.division.now }
     ensures { InRange task.entry.manner.workers task.entry.manner.tries → IfOk result (λ r. IsContentsRun (is_some task.entry.log)
-        (contents_of task.entry.script.now) task.entry.manner.workers task.entry.manner.tries task.entry.manner.audit
+        (contents_of task.entry.script.now) task.entry.manner.workers task.entry.manner.tries task.entry.manner.audit task.entry.manner.strict
         r.status (string_bytes r.lines)) }
 {
     match starts_of(rt, alloc, task, count_of(task.script.dcs.len()))? {
@@ -167,7 +167,7 @@ fn run_accepted<R: Files<File = File> + Clock + Threads + Wait + Sync>(
     requires state { accepted.state ≡ begun (contents_of accepted.script) }
     ensures { InRange manner.workers manner.tries
         → IfOk result (λ r. IsContentsRun (is_some log.entry) (contents_of accepted.entry.script)
-        manner.workers manner.tries manner.audit r.status (string_bytes r.lines)) }
+        manner.workers manner.tries manner.audit manner.strict r.status (string_bytes r.lines)) }
 {
     let Accepted { script, state } = accepted;
     let script = &script;
@@ -202,7 +202,7 @@ fn run_fit<R: Files<File = File> + Clock + Threads + Wait + Sync>(
     requires verified { first_unverified (option_map (λ file. file.now) object) accepted.script.procedures.items ≡ None }
     requires state { accepted.state ≡ begun (contents_of accepted.script) }
     ensures { IfOk result (λ r. IsContentsRun (is_some log.entry) (contents_of accepted.entry.script)
-        manner.workers manner.tries manner.audit r.status (string_bytes r.lines)) }
+        manner.workers manner.tries manner.audit manner.strict r.status (string_bytes r.lines)) }
 {
     match of_manner(manner) {
         Some(stop) => {
@@ -235,7 +235,7 @@ pub fn running_partitioned<R: Files<File = File> + Clock + Threads + Wait + Sync
     manner: Manner,
     listeners: Listeners,
 ) -> Result<Output, Fault>
-    ensures { IfOk result (λ r. IsPartitionedRun (is_some log.entry) manner.workers manner.tries manner.audit (beginning_of command.Run source.entry)
+    ensures { IfOk result (λ r. IsPartitionedRun (is_some log.entry) manner.workers manner.tries manner.audit manner.strict (beginning_of command.Run source.entry)
         r.status (string_bytes r.lines)) }
 {
     let acceptance = accept(alloc, source)?;

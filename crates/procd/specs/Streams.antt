@@ -34,8 +34,8 @@ PartFails (Some log) err = (number : ℕ) × LogFails (Some (log ++ (codes "." +
 -- a further file can't be read or written
 abbrev pub FurtherFails : Wish → Stream → Type 0
 FurtherFails (World log audit script) err = ScriptFails script err
-FurtherFails (Run workers tries stats audit results tell metrics trace log checkpoint over script) err = LogFails log err ⊎ ScriptFails script err
-FurtherFails (Partitioned workers tries audit log script) err = PartFails log err ⊎ ScriptFails script err
+FurtherFails (Run workers tries stats audit strict results tell metrics trace log checkpoint over script) err = LogFails log err ⊎ ScriptFails script err
+FurtherFails (Partitioned workers tries audit strict log script) err = PartFails log err ⊎ ScriptFails script err
 FurtherFails (Log (Audit source script)) err = TellsUnread source err ⊎ ScriptFails script err
 FurtherFails (Log (Picture path part)) err = TellsUnwritten path err
 FurtherFails other err = ⊥

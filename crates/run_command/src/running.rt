@@ -14,7 +14,7 @@ ghost use Rattle.run_command.specs.Running.{AreLinesOf, IsCallsRun, IsRun};
 
 use crate::parts::{RunOutcome, answer_parts};
 use report_texts::output::Output;
-use run_calls::answering::{Answers, Manner, RunInput, has_want_of_memory};
+use run_calls::answering::{Answers, Manner, RunInput, has_want_of_memory, run_status};
 use run_calls::figures::{
     Watched, delay_lines, figures, latency_lines, log_figures, notes_of, procedure_lines, rate,
 };
@@ -88,7 +88,7 @@ fn reported(
     renewal: Renewal,
     watched: Watched,
 ) -> Result<Output, AllocError>
-    ensures lines { IfOk result (λ r. AreLinesOf ground.now.state ground.now.dcs.items input.entry.manner.audit
+    ensures lines { IfOk result (λ r. AreLinesOf ground.now.state ground.now.dcs.items input.entry.manner.audit input.entry.manner.strict
         answers.now.first.items answers.now.calls.items (string_bytes lines) renewal r.status (string_bytes r.lines)) }
     ensures full { IfOk result (λ r. AreNotesIf input.entry.manner.stats ground.now.dcs.items r.notes) }
 {
@@ -104,7 +104,7 @@ fn reported(
     let sound = write_audit_if(alloc, input.manner.audit, &ground.state, dcs, &mut lines)?;
     let figures = figures_if(alloc, ground, input, answers, watched)?;
     Ok(Output {
-        status: u8::from(!sound),
+        status: run_status(input.manner.strict, calls, sound),
         lines,
         notes: notes_of(alloc, figures, dcs)?,
     })
@@ -190,7 +190,7 @@ fn ended(
     outcome: RunOutcome,
 ) -> Result<RunReport, Stop>
     ensures ok { IfOk result (λ r. (r.journal ≡ outcome.ground.journal)
-        × AreLinesOf outcome.ground.state outcome.ground.dcs.items input.entry.manner.audit
+        × AreLinesOf outcome.ground.state outcome.ground.dcs.items input.entry.manner.audit input.entry.manner.strict
         outcome.answers.first.items outcome.answers.calls.items (string_bytes outcome.lines) outcome.renewal
         r.report.status (string_bytes r.report.lines)) }
     ensures err { IfErr result (λ e. e ≡ Stop.Memory) }
@@ -221,7 +221,7 @@ pub fn run_from<R: Files<File = File> + Clock + Threads + Wait + Sync>(
 ) -> Result<RunReport, Stop>
     ensures run { KeepsLog ground.journal ground.state.events → IfOk result (λ r. IsCallsRun (IsKeptSo r.journal input.entry.checkpoints)
         input.entry.checkpoints ground.state ground.dcs.items input.entry.first.now input.entry.calls.now
-        input.entry.manner.workers input.entry.manner.tries input.entry.manner.audit input.entry.manner.results
+        input.entry.manner.workers input.entry.manner.tries input.entry.manner.audit input.entry.manner.strict input.entry.manner.results
         r.report.status (string_bytes r.report.lines)) }
     ensures fault { IfErr result (IsUnkept (is_some ground.journal)) }
 {
@@ -252,7 +252,7 @@ pub fn running<R: Files<File = File> + Clock + Threads + Wait + Sync>(
     manner: Manner,
     listeners: Listeners,
 ) -> Result<Output, AllocError>
-    ensures { IfOk result (λ r. IsRun manner.workers manner.tries manner.audit manner.results (beginning_of command.Run source.entry)
+    ensures { IfOk result (λ r. IsRun manner.workers manner.tries manner.audit manner.strict manner.results (beginning_of command.Run source.entry)
         r.status (string_bytes r.lines)) }
 {
     let loaded = match load_source(alloc, Command::Run, source)? {
