@@ -243,7 +243,9 @@ row 2/0/6 0
 
 # Each partition with calls has a log of its own, by the order of their first components.
 APART_AUDITS = """\
+partition 0
 audit ok ended 5 open 0
+partition 1
 audit ok ended 3 open 0
 """
 
@@ -294,7 +296,7 @@ def rows(_program):
     every = "dc 1 9\n" + PUT + GET + BAD + EVERY_CALL
     full = b"full dc 0 9 operations\n"
     for words in ["", "--partitions ", "--audit --partitions "]:
-        audit = "audit ok ended 7 open 2\n" if "audit" in words else ""
+        audit = "partition 0\naudit ok ended 7 open 2\n" if "audit" in words else ""
         yield Row(f"run {words}--workers 1 -".split(), every.encode(), (EVERY_ANSWERED + audit).encode(), 0, full)
         yield Row(f"run --strict {words}--workers 1 -".split(), every.encode(), (EVERY_ANSWERED + audit).encode(), 1, full)
     yield Row("run --tell --workers 1 -".split(), every.encode(), EVERY_ANSWERED.encode(), 0, EVERY_TOLD.encode())
@@ -317,7 +319,7 @@ def rows(_program):
         yield row(f"run {words}-", FOUR + EIGHT_MOVES, EIGHT_COMMITTED)
         yield row(f"run {words}-", "dc 1 1\nproc a 0\nmov r0, 0\nexit\nend\n", "")
     yield row("run --partitions --audit -", APART, APART_PRINTED + APART_AUDITS)
-    yield row("run --partitions --audit -", joined, APART_PRINTED + "audit ok ended 8 open 0\n")
+    yield row("run --partitions --audit -", joined, APART_PRINTED + "partition 0\naudit ok ended 8 open 0\n")
     yield from (Row(f"run --partitions {more} -".split(), APART.encode(), b"", 2, b"error: run takes --partitions") for more in BESIDE_PARTITIONS)
     # a script is refused before a call is made
     yield refused("run -", "dc 1 1\nproc a 0\nexit\nend\ncall a\n", "line 4 F7 Verify V5 EmptyRegister slot 0")

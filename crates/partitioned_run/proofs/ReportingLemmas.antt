@@ -1,5 +1,5 @@
 -- The answers and the data components of all partitions together.
-use Rattle.std.proofs.Common.{arith, inl, inr, ◌≡◌, ◌∙◌, ◌<◌, ◌+◌, ℕ, Bool, true, false, max, List, [], ◌∷◌, ◌++◌, length, map, take, get_or, refl, sym, ap, subst}
+use Rattle.std.proofs.Common.{add-zero, arith, inl, inr, ◌≡◌, ◌∙◌, ◌<◌, ◌+◌, ℕ, Bool, true, false, max, List, [], ◌∷◌, ◌++◌, length, map, take, get_or, refl, sym, ap, subst}
 use Rattle.std.specs.Prelude.{◌&&◌, if◌then◌else◌, Option, Some, None, option_map, slice_get, Result, Ok, Err, IfOk, All, codes, string_bytes}
 use Rattle.std.specs.List.{list_any}
 use Rattle.std.specs.Global.{Vec}
@@ -39,7 +39,7 @@ use Rattle.worker_pool.specs.Faults.{InRange}
 use Rattle.partitioned_run.specs.declared.answering.PartitionOutcome.{PartitionOutcome}
 use Rattle.partitioned_run.specs.declared.dividing.Division.{Division}
 use Rattle.partitioned_run.specs.declared.reporting.Outcomes.{Outcomes}
-use Rattle.partitioned_run.specs.Partitioned.{decl_of, partition_of_call, IsAnsweredBy, AddsAuditOf, AddsAudits, kept_dc, kept_dcs, kept_from}
+use Rattle.partitioned_run.specs.Partitioned.{decl_of, partition_of_call, IsAnsweredBy, AddsAuditOf, AddsAudits, AddsAuditsFrom, kept_dc, kept_dcs, kept_from}
 use Rattle.partitioned_run.specs.Partitioned.{AreRunApart, Ran as Begun, Stopped}
 use Rattle.partitioned_run.specs.Logged.{front_lines, AreRunFrom, Behind, IsContentsRun, IsPartitionedBy, IsPartitionedRun, IsRunFrom, Refused}
 use Rattle.partitioned_run.specs.declared.grounds.Start.{Start}
@@ -387,26 +387,36 @@ and_true : (a : Bool) → (a && true) ≡ a
 and_true true = refl
 and_true false = refl
 
-pub audits_push : (audit : Bool) (grounds : List (Option Ground)) (ground : Option Ground) (old middle new : List ℕ) (sound one : Bool)
-    → AddsAudits audit grounds old middle sound → AddsAuditOf audit ground middle new one
-    → AddsAudits audit (grounds ++ ground ∷ []) old new (sound && one)
-audits_push audit [] ground old middle new sound one none adds =
-    (new, one, true, subst (λ (l : List ℕ). AddsAuditOf audit ground l new one) none.0 adds, (refl, refl), rw none.1 (sym (and_true one)))
-audits_push audit (g ∷ grounds) ground old middle new sound one h adds = (
-  h.0,
-  h.1,
-  h.2 && one,
-  h.3,
-  audits_push audit grounds ground h.0 middle new h.2 one h.4 adds,
-  ap (λ (s : Bool). s && one) h.5 ∙ sym (and_assoc h.1 h.2 one),
+audits_push : (audit : Bool) (p : ℕ) (grounds : List (Option Ground)) (ground : Option Ground) (old middle new : List ℕ) (sound one : Bool)
+    → AddsAuditsFrom audit p grounds old middle sound → AddsAuditOf audit (p + length grounds) ground middle new one
+    → AddsAuditsFrom audit p (grounds ++ ground ∷ []) old new (sound && one)
+audits_push audit p [] ground old middle new sound one none adds = (
+  new,
+  one,
+  true,
+  subst (λ (l : List ℕ). AddsAuditOf audit p ground l new one) none.0 (subst (λ (n : ℕ). AddsAuditOf audit n ground middle new one) (add-zero p) adds),
+  (refl, refl),
+  rw none.1 (sym (and_true one)),
 )
+audits_push audit p (g ∷ grounds) ground old middle new sound one h adds =
+    let place : p + length (g ∷ grounds) ≡ p + 1 + length grounds = omega arith in (
+      h.0,
+      h.1,
+      h.2 && one,
+      h.3,
+      audits_push audit (p + 1) grounds ground h.0 middle new h.2 one h.4
+          (subst (λ (n : ℕ). AddsAuditOf audit n ground middle new one) place adds),
+      ap (λ (s : Bool). s && one) h.5 ∙ sym (and_assoc h.1 h.2 one),
+    )
 
 pub audits_more : (audit : Bool) (grounds : List (Option Ground)) (i : ℕ) (d : Option Ground) (old middle new : List ℕ) (sound one both : Bool)
-    → i < length grounds → AddsAudits audit (take i grounds) old middle sound → d ≡ get_or grounds i d → AddsAuditOf audit d middle new one
+    → i < length grounds → AddsAudits audit (take i grounds) old middle sound → d ≡ get_or grounds i d → AddsAuditOf audit i d middle new one
     → both ≡ (sound && one)
     → AddsAudits audit (take (i + 1) grounds) old new both
 audits_more audit grounds i d old middle new sound one both lt done here adds is =
+    let place : i ≡ 0 + length (take i grounds) = omega (arith, length-take-le i grounds (omega (arith, lt))) in
     subst (λ (b : Bool). AddsAudits audit (take (i + 1) grounds) old new b) (sym is)
     (subst (λ (gs : List (Option Ground)). AddsAudits audit gs old new (sound && one)) (sym (take_more grounds i d lt))
-    (audits_push audit (take i grounds) (get_or grounds i d) old middle new sound one done
-    (subst (λ (ground : Option Ground). AddsAuditOf audit ground middle new one) here adds)))
+    (audits_push audit 0 (take i grounds) (get_or grounds i d) old middle new sound one done
+    (subst (λ (n : ℕ). AddsAuditOf audit n (get_or grounds i d) middle new one) place
+    (subst (λ (ground : Option Ground). AddsAuditOf audit i ground middle new one) here adds))))

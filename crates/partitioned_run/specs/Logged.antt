@@ -1,6 +1,6 @@
 -- What the calls of a script print when those of each partition are run apart, behind what a file of its own has.
 use Rattle.std.specs.Prelude.{◌≡◌, ◌⊎◌, ℕ, ◌==◌, Bool, true, false, ◌&&◌, List, [], ◌∷◌, ◌++◌, map, slice_get, length}
-use Rattle.std.specs.Prelude.{Option, Some, None, is_some, codes, decimal, string_bytes}
+use Rattle.std.specs.Prelude.{Option, Some, None, is_some, string_bytes}
 use Rattle.std.specs.List.{flat_map}
 use Rattle.std.specs.declared.alloc.Global.{Global}
 use Rattle.std.specs.declared.string.String.{String}
@@ -18,13 +18,9 @@ use Rattle.run_ground.specs.Kept.{FileJournal, KeepsLog}
 use Rattle.run_log.specs.Recovering.{IsLogFor, IsLogRefusal, IsBackTo}
 use Rattle.partitioned_run.specs.declared.grounds.Start.{Start}
 use Rattle.partitioned_run.specs.Belonging.{other_line, IsLogOfPartition, IsLogOfOther}
-use Rattle.partitioned_run.specs.Partitioned.{decl_of, AreRunApart, IsAnsweredBy, IsAnsweredPart, IsCallsRunApart, IsRunApart}
+use Rattle.partitioned_run.specs.Partitioned.{decl_of, partition_line, AreRunApart, IsAnsweredBy, IsAnsweredPart, IsCallsRunApart, IsRunApart}
 
 -- ---- what comes back
-
--- a line that names a partition
-abbrev pub partition_line : ℕ → List ℕ
-partition_line number = codes "partition " ++ (decimal number ++ codes "\n")
 
 -- the lines of what came back stand behind it; of a file that was new there is nothing to tell
 abbrev pub front_by : ℕ → List ℕ → List ℕ

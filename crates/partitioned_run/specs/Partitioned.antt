@@ -1,6 +1,6 @@
 -- What the calls of a script print when those of each partition are run apart, and the exit status.
 use Rattle.std.specs.Prelude.{◌≡◌, ℕ, ◌+◌, Bool, true, false, ◌&&◌, if◌then◌else◌, List, [], ◌∷◌, ◌++◌, length, map, get_or, max, slice_get}
-use Rattle.std.specs.Prelude.{Option, Some, None, codes}
+use Rattle.std.specs.Prelude.{Option, Some, None, codes, decimal}
 use Rattle.std.specs.List.{list_any}
 use Rattle.access_slots.specs.Declaration.{Declaration}
 use Rattle.data_component.specs.Store.{Store}
@@ -72,18 +72,25 @@ kept_from numbers grounds dc (empty ∷ dcs) = kept_dc numbers grounds dc empty 
 abbrev pub kept_dcs : List ℕ → List (Option Ground) → List Store → List Store
 kept_dcs numbers grounds dcs = kept_from numbers grounds 0 dcs
 
--- where it is wanted, what an audit finds of a partition with calls
-abbrev pub AddsAuditOf : Bool → Option Ground → (old new : List ℕ) → Bool → Type 0
-AddsAuditOf audit None old new sound = (new ≡ old) × (sound ≡ true)
-AddsAuditOf audit (Some behind) old new sound =
-    AddsIf audit old new sound (AddsAudit behind.state.procs behind.state.events behind.dcs.items old new sound)
+-- a line that names a partition
+abbrev pub partition_line : ℕ → List ℕ
+partition_line number = codes "partition " ++ (decimal number ++ codes "\n")
 
--- of all, one after another; the last value says whether nothing is wrong
+-- where it is wanted, what an audit finds of a partition with calls, behind the line that names it
+abbrev pub AddsAuditOf : Bool → ℕ → Option Ground → (old new : List ℕ) → Bool → Type 0
+AddsAuditOf audit p None old new sound = (new ≡ old) × (sound ≡ true)
+AddsAuditOf audit p (Some behind) old new sound =
+    AddsIf audit old new sound (AddsAudit behind.state.procs behind.state.events behind.dcs.items (old ++ partition_line p) new sound)
+
+-- of all, one after another, the first of which has this number; the last value says whether nothing is wrong
+abbrev pub AddsAuditsFrom : Bool → ℕ → List (Option Ground) → (old new : List ℕ) → Bool → Type 0
+AddsAuditsFrom audit p [] old new sound = (new ≡ old) × (sound ≡ true)
+AddsAuditsFrom audit p (behind ∷ grounds) old new sound =
+    (middle : List ℕ) × (first : Bool) × (others : Bool) × AddsAuditOf audit p behind old middle first
+    × AddsAuditsFrom audit (p + 1) grounds middle new others × (sound ≡ (first && others))
+
 abbrev pub AddsAudits : Bool → List (Option Ground) → (old new : List ℕ) → Bool → Type 0
-AddsAudits audit [] old new sound = (new ≡ old) × (sound ≡ true)
-AddsAudits audit (behind ∷ grounds) old new sound =
-    (middle : List ℕ) × (first : Bool) × (others : Bool) × AddsAuditOf audit behind old middle first
-    × AddsAudits audit grounds middle new others × (sound ≡ (first && others))
+AddsAudits audit grounds old new sound = AddsAuditsFrom audit 0 grounds old new sound
 
 -- ---- the report
 

@@ -13,7 +13,7 @@ ghost use Rattle.partitioned_run.specs.declared.answering.PartitionOutcome.{Part
 
 use crate::answering::PartitionOutcome;
 use crate::fault::Fault;
-use crate::recovering::file_of;
+use crate::recovering::{file_of, partition_line};
 use data_component::dc::Dc;
 use partitions::Partitions;
 use run_calls::answer_lines::write_answers;
@@ -178,18 +178,23 @@ pub fn full_kept(
     Ok(text)
 }
 
-// Adds the line of an audit of a partition, where it has calls and that is wanted, and answers whether nothing is wrong.
+// Adds what an audit finds of the partition with this number, behind the line that names it, where it has calls and that is
+// wanted, and answers whether nothing is wrong.
 fn write_audit_of(
     alloc: Global,
     audit: bool,
+    number: usize,
     ground: &Option<Ground>,
     lines: &mut String,
 ) -> Result<bool, AllocError>
-    ensures { IfOk result (AddsAuditOf audit ground.now (string_bytes lines.old) (string_bytes lines.new)) }
+    ensures { IfOk result (AddsAuditOf audit number ground.now (string_bytes lines.old) (string_bytes lines.new)) }
 {
     match ground {
-        Some(ground) => write_audit_if(alloc, audit, &ground.state, ground.dcs.as_slice(), lines),
-        None => Ok(true),
+        Some(ground) if audit => {
+            lines.push_str(partition_line(alloc, number)?.as_str())?;
+            write_audit_if(alloc, true, &ground.state, ground.dcs.as_slice(), lines)
+        }
+        _ => Ok(true),
     }
 }
 
@@ -200,7 +205,7 @@ fn are_both(one: bool, other: bool) -> bool
     one && other
 }
 
-/// Adds the line of an audit of each partition with calls, where that is wanted, and answers whether nothing is wrong.
+/// Adds what an audit finds of each partition with calls, where that is wanted, and answers whether nothing is wrong.
 pub fn write_audits(
     alloc: Global,
     audit: bool,
@@ -210,8 +215,8 @@ pub fn write_audits(
     ensures { IfOk result (AddsAudits audit grounds.now (string_bytes lines.old) (string_bytes lines.new)) }
 {
     let mut sound = true;
-    for ground in grounds {
-        let found = write_audit_of(alloc, audit, ground, lines)?;
+    for (number, ground) in grounds.iter().enumerate() {
+        let found = write_audit_of(alloc, audit, number, ground, lines)?;
         sound = are_both(sound, found);
     }
     Ok(sound)
