@@ -1,6 +1,7 @@
 #!/usr/bin/env python3
 """Runs reads over a data component that is full, ten times as many the second time: each call beyond its room is in doubt
-by the rule, `--stats` names the component and its count, and the run takes a processor's time in proportion.
+by the rule, the component and its count are named whatever the options, `--strict` says so by the status, and the run takes
+a processor's time in proportion.
 
 usage: tools/full_component.py [--procd PATH] [--reads N]
 
@@ -47,12 +48,22 @@ def seconds_of(program, reads, faults):
     return least
 
 
+def check_told(program, faults):
+    """What is told of the component, and the status, whatever the options."""
+    script = (SCRIPT + "call look 1\n" * (ROOM + 1)).encode()
+    for words, status in ([], 0), (["--partitions"], 0), (["--strict"], 1), (["--partitions", "--strict"], 1):
+        ran = program.run(["run", *words, "-"], script)
+        if (ran.status, ran.err) != (status, b"full dc 0 %d operations\n" % ROOM):
+            faults.append(f"{words}: status {ran.status}, and {ran.err!r}")
+
+
 def main():
     words = argparse.ArgumentParser()
     words.add_argument("--procd", default=str(PROCD))
     words.add_argument("--reads", type=int, default=20_000)
     asked = words.parse_args()
     faults, program = [], Program(asked.procd, None)
+    check_told(program, faults)
     few, many = (seconds_of(program, n, faults) for n in (asked.reads, 10 * asked.reads))
     if many > MOST * few:
         faults.append(f"{asked.reads} reads took a processor {few:.2f} s and {10 * asked.reads} took {many:.2f} s")

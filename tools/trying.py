@@ -9,6 +9,7 @@ import subprocess
 
 Ran = collections.namedtuple("Ran", "status out err")
 REASONS = {3: rb"cannot read [^\n]+\n|cannot write: [^\n]+\n", 4: rb"memory\n"}
+FULL = rb"(?:full dc \d+ \d+ operations\n)*"  # what a run tells of data components
 SHOWN = 5  # of what is wrong, how much is shown
 
 
@@ -53,7 +54,8 @@ def undocumented(ran):
     """What of this end the documents don't know, or None."""
     if ran.status not in range(5):
         return f"status {ran.status}"
-    if bool(ran.err) != (ran.status >= 2):
+    told = ran.err if ran.status >= 2 else re.sub(rb"\A" + FULL, b"", ran.err)
+    if bool(told) != (ran.status >= 2):
         return f"status {ran.status} and {ran.err} on standard error"
     if ran.status in REASONS and not re.fullmatch(REASONS[ran.status], ran.err):
         return f"{ran.err} on standard error"

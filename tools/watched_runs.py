@@ -3,19 +3,23 @@
 
 usage: tools/watched_runs.py [--procd PATH]
 
-Figures by procedure, waits, resends and syncs against the lines of the calls; a scrape of the metrics while the run lasts
-and behind it; each phase of the trace within its call, and no two calls of a lane at once; files that aren't the program's
-are left alone. A line for each that is otherwise, and one with the count; the status is 1 where one was.
+Figures by procedure, waits, resends and syncs against the lines of the calls; the frames of the log's file, which are as
+few where a run is watched; a scrape of the metrics while the run lasts and behind it; each phase of the trace within its
+call, and no two calls of a lane at once; files that aren't the program's are left alone. A line for each that is otherwise,
+and one with the count; the status is 1 where one was.
 """
 import argparse
 import collections
 import json
 import os
 import pathlib
+import pty
 import re
+import struct
 import subprocess
 import sys
 import tempfile
+import threading
 import time
 
 from built import PROCD
@@ -33,6 +37,7 @@ FEW_SAID = [
     "resends 0",
 ]
 MOVES = 2_000
+OFTEN = 3_000
 PHASES = ("waiting", "asking", "carrying", "keeping")
 SAMPLE = re.compile(r"([a-z_]+)((?:\{[a-z]+=\"[^\"]+\"\})?) (\d+(?:e-?\d+)?)")
 
@@ -98,6 +103,53 @@ def figures(checks, folder):
         doubted = outcomes(lines)["in_doubt"]
         checks.same("calls behind a full component", doubted, 4)
         checks.same(f"resends of {tries} tries", [line for line in told if line.startswith("resends")], [f"resends {4 * (tries - 1)}"])
+
+
+def frames_of(path):
+    """How many frames a log's file has."""
+    data, place, count = path.read_bytes(), 0, 0
+    while place < len(data):
+        (length,) = struct.unpack_from("<Q", data, place + 8)
+        place, count = place + 24 + length, count + 1
+    return count
+
+
+def drained(terminal):
+    """Reads what a terminal is told, to its end."""
+    try:
+        while os.read(terminal, 65536):
+            pass
+    except OSError:
+        pass
+
+
+def frames_by(checks, folder, words):
+    """How many frames the log has of moves between a hundred records by 16 workers; on a terminal where no words are given."""
+    log, script = folder / "moves.log", folder / "moves.txt"
+    log.unlink(missing_ok=True)
+    script.write_text(
+        SCRIPT.replace("first put 1 1000\nfirst put 2 1000\n", "".join(f"first put {k} 1000\n" for k in range(100)))
+        + "".join(f"call move {i % 100} {(i * 7 + 1) % 100} 1\n" for i in range(OFTEN))
+    )
+    terminal, error = pty.openpty() if words is None else (None, subprocess.DEVNULL)
+    if terminal:
+        threading.Thread(target=drained, args=(terminal,), daemon=True).start()
+    asked = [checks.procd, "run", "--workers", "16", "--log", log, *(words or []), script]
+    ran = subprocess.run(list(map(str, asked)), stdout=subprocess.DEVNULL, stderr=error, check=False)
+    checks.same(f"the status of {OFTEN} moves", ran.returncode, 0)
+    if terminal:
+        os.close(error)
+    return frames_of(log)
+
+
+def group_commit(checks, folder):
+    """A run that is watched has about as many frames as one that isn't."""
+    plain = min(frames_by(checks, folder, []) for _ in range(3))
+    for words in (["--stats"], ["--tell"], ["--metrics", folder / "m.prom"], ["--trace", folder / "t.json"], None):
+        frames = min(frames_by(checks, folder, words) for _ in range(3))
+        if frames > 1.2 * plain + 12:
+            checks.wrong.append(f"{frames} frames by {words or 'a terminal'}, {plain} unwatched")
+        checks.count += 1
 
 
 def metrics_fit(checks, text, lines, told):
@@ -184,7 +236,10 @@ def traces(checks, folder):
     names = [event["name"] for event in json.loads(path.read_text())["traceEvents"] if event.get("cat") == "call"]
     checks.same("names", names, ["get", "get", "move", "bad", "put", "move"])
     script = SCRIPT + "call move 1 2 1\n" * MOVES
-    waits = trace_fits(checks, path, *checks.run(["--stats", "--workers", 4, "--trace", path, "--log", folder / "moves.log"], script))
+    trace_fits(checks, path, *checks.run(["--stats", "--workers", 4, "--trace", path, "--log", folder / "moves.log"], script))
+    # Behind the gets the component is full: of each record one call sends its wire a thousand times, and the other waits.
+    script = f"dc 100 {MOVES}\n" + PUT + GET + "call get 1\n" * MOVES + "".join(f"call put {k} 1\n" * 2 for k in range(10))
+    waits = trace_fits(checks, path, *checks.run(["--stats", "--workers", 4, "--tries", 1000, "--trace", path], script))
     checks.same("calls in each other's way wait", waits > 0, True)
 
 
@@ -234,7 +289,7 @@ def main():
     words = argparse.ArgumentParser(description=__doc__, formatter_class=argparse.RawDescriptionHelpFormatter)
     words.add_argument("--procd", default=str(PROCD))
     checks = Checks(words.parse_args().procd)
-    for section in (figures, metrics, traces, foreign, links):
+    for section in (figures, group_commit, metrics, traces, foreign, links):
         with tempfile.TemporaryDirectory() as folder:
             section(checks, pathlib.Path(folder))
     for line in checks.wrong[:20]:

@@ -147,7 +147,7 @@ RUNS = [
     (FAR, "dc 1 1\n", "refused object get F8 DcUnknown\n", 1),
     (FAR, "dc 1 1\nproc a 0\nexit\nend\n", "refused object get F8 DcUnknown\n", 1),
     (FAR, "dc 1 1\nfly\n", "refused line 2 F1 BadLine\n", 1),
-    (FAR, "dc 1 1\ndc 1 1\ncall get 5\n", "call 0 committed\n", 0),
+    (FAR, "dc 1 1\ndc 1 2\ncall get 5\n", "call 0 committed\n", 0),
     # what the verifier refuses comes before the faults of lines
     (UNSAFE, "dc 1 1\nfly\n", "refused object get F7 Verify V10 MaybeNull slot 2\n", 1),
     (UNSAFE, "dc 1 1\nproc a 0\nexit\nend\n", "refused object get F7 Verify V10 MaybeNull slot 2\n", 1),

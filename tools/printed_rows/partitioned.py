@@ -14,7 +14,7 @@ ROWS_OF_0 = "".join(line for line in ROWS.splitlines(True) if not line.startswit
 FRONT_0 = "partition 0\nrecovered 26 events, 0 open\n"
 FRONT_1 = "partition 1\nrecovered 12 events, 0 open\n"
 # What is of component 3 nobody has called: its file has a log all the same.
-AUDITS = APART_AUDITS + "audit ok ended 0 open 0\n"
+AUDITS = APART_AUDITS + "partition 3\naudit ok ended 0 open 0\n"
 LOG_1 = """\
 0 admit 1 procedure 1 5
 1 ask 1 number 1 insert 1/0/5 0

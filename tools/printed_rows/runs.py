@@ -1,5 +1,5 @@
 """`run`: calls by workers, their answers and the rows."""
-from procedures import BAD, FOUR, GET, MOVE, PUT
+from procedures import BAD, FOUR, GET, MOVE, PUT, four
 from .row import Row, refused, row
 
 # Each data component has room for another number of records.
@@ -123,6 +123,14 @@ told 9 in doubt 11
 full dc 0 9 operations
 """
 
+# What is done, and what counts as failed where that is asked for; calls of the first list don't.
+STRICT = [
+    ("call put 5 1\ncall get 6\ncall bad 5\n", "call 0 committed\ncall 1 aborted 1\ncall 2 aborted 5\nrow 0/0/5 1\n", 0),
+    ("first put 5 1\nfirst put 6 1\n", "first 0 committed\nfirst 1 noroom\nrow 0/0/5 1\n", 0),
+    ("call put 5 1\ncall put 6 1\n", "call 0 committed\ncall 1 noroom\nrow 0/0/5 1\n", 1),
+    ("call get\n", "call 0 refused B5 ArgumentCount\n", 1),
+]
+
 # Each call that committed with what its slots hold, the last with no record: it deletes through one slot what it read through the other.
 RESULTS = """\
 proc gone 1
@@ -235,7 +243,9 @@ row 2/0/6 0
 
 # Each partition with calls has a log of its own, by the order of their first components.
 APART_AUDITS = """\
+partition 0
 audit ok ended 5 open 0
+partition 1
 audit ok ended 3 open 0
 """
 
@@ -284,8 +294,20 @@ def rows(_program):
     yield row("run --audit -", FOUR + EIGHT_MOVES, EIGHT_COMMITTED + "audit ok ended 9 open 0\n")
     # one record has room, and nine operations
     every = "dc 1 9\n" + PUT + GET + BAD + EVERY_CALL
-    yield row("run --workers 1 -", every, EVERY_ANSWERED)
+    full = b"full dc 0 9 operations\n"
+    for words in ["", "--partitions ", "--audit --partitions "]:
+        audit = "partition 0\naudit ok ended 7 open 2\n" if "audit" in words else ""
+        yield Row(f"run {words}--workers 1 -".split(), every.encode(), (EVERY_ANSWERED + audit).encode(), 0, full)
+        yield Row(f"run --strict {words}--workers 1 -".split(), every.encode(), (EVERY_ANSWERED + audit).encode(), 1, full)
     yield Row("run --tell --workers 1 -".split(), every.encode(), EVERY_ANSWERED.encode(), 0, EVERY_TOLD.encode())
+    # each that is full, in their order: of two partitions, and one that no call reaches
+    apart = "dc 1 1\ndc 1 9\ndc 1 0\n" + GET + GET.replace("proc get", "proc other").replace("slot read 0", "slot read 1") + "call get 5\ncall other 5\n"
+    for words in ["", "--partitions "]:
+        told = b"full dc 0 1 operations\nfull dc 2 0 operations\n"
+        yield Row(f"run {words}-".split(), apart.encode(), b"call 0 aborted 1\ncall 1 aborted 1\n", 0, told)
+    for calls, answered, status in STRICT:
+        for words in ["", "--partitions "]:
+            yield row(f"run --strict {words}--workers 1 -", four("dc 1 99\n") + calls, answered, status)
     yield row("run --results --workers 1 -", FOUR + RESULTS, RESULTS_PRINTED)
     yield row("run --results --audit --workers 1 -", FOUR + "call put 5 7\n", "call 0 committed\nresult 0 0 7\nrow 0/0/5 7\naudit ok ended 1 open 0\n")
     yield row("run --workers 64 -", FIRST, FIRST_ANSWERED)
@@ -297,7 +319,7 @@ def rows(_program):
         yield row(f"run {words}-", FOUR + EIGHT_MOVES, EIGHT_COMMITTED)
         yield row(f"run {words}-", "dc 1 1\nproc a 0\nmov r0, 0\nexit\nend\n", "")
     yield row("run --partitions --audit -", APART, APART_PRINTED + APART_AUDITS)
-    yield row("run --partitions --audit -", joined, APART_PRINTED + "audit ok ended 8 open 0\n")
+    yield row("run --partitions --audit -", joined, APART_PRINTED + "partition 0\naudit ok ended 8 open 0\n")
     yield from (Row(f"run --partitions {more} -".split(), APART.encode(), b"", 2, b"error: run takes --partitions") for more in BESIDE_PARTITIONS)
     # a script is refused before a call is made
     yield refused("run -", "dc 1 1\nproc a 0\nexit\nend\ncall a\n", "line 4 F7 Verify V5 EmptyRegister slot 0")

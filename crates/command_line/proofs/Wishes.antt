@@ -122,9 +122,9 @@ wants_exec name rows raw numbers is flag all (Dis r) named says = absurd (exec_n
 wants_exec name rows raw numbers is flag all Verify named says = absurd (exec_not_verify (sym is ∙ named))
 wants_exec name rows raw numbers is flag all (World log audit script) named says = absurd (exec_not_world (sym is ∙ named))
 wants_exec name rows raw numbers is flag all
-    (Run workers tries stats audit results tell metrics trace log checkpoint over script) named says =
+    (Run workers tries stats audit strict results tell metrics trace log checkpoint over script) named says =
     absurd (exec_not_run (sym is ∙ named))
-wants_exec name rows raw numbers is flag all (Partitioned workers tries a l s) named says = absurd (exec_not_run (sym is ∙ named))
+wants_exec name rows raw numbers is flag all (Partitioned workers tries a b l s) named says = absurd (exec_not_run (sym is ∙ named))
 wants_exec name rows raw numbers is flag all (Log script) named says = absurd (exec_not_log (sym is ∙ named))
 
 pub wants_dis : (name : List ℕ) (rows : List Row) (raw : Bool) → name ≡ codes "dis" → ((r : Bool) → IsFlag r (one_of (codes "raw") rows) → raw ≡ r)
@@ -135,9 +135,9 @@ wants_dis name rows raw is flag (Dis r) named says = ap Dis (flag r says)
 wants_dis name rows raw is flag Verify named says = absurd (dis_not_verify (sym is ∙ named))
 wants_dis name rows raw is flag (World log audit script) named says = absurd (dis_not_world (sym is ∙ named))
 wants_dis name rows raw is flag
-    (Run workers tries stats audit results tell metrics trace log checkpoint over script) named says =
+    (Run workers tries stats audit strict results tell metrics trace log checkpoint over script) named says =
     absurd (dis_not_run (sym is ∙ named))
-wants_dis name rows raw is flag (Partitioned workers tries a l s) named says = absurd (dis_not_run (sym is ∙ named))
+wants_dis name rows raw is flag (Partitioned workers tries a b l s) named says = absurd (dis_not_run (sym is ∙ named))
 wants_dis name rows raw is flag (Log script) named says = absurd (dis_not_log (sym is ∙ named))
 
 pub wants_world : (name : List ℕ) (rows : List Row) (log audit : Bool) (script : Option (List ℕ)) → name ≡ codes "world"
@@ -152,27 +152,27 @@ wants_world name rows log audit script is flag other path Verify named says = ab
 wants_world name rows log audit script is flag other path (World l a s) named says =
     ap₂ (λ (x y : Bool). World x y script) (flag l says.0) (other a says.1) ∙ ap (λ (o : Option (List ℕ)). World l a o) (path ∙ says.2)
 wants_world name rows log audit script is flag other path
-    (Run workers tries stats a results tell metrics trace kept checkpoint over beside) named says =
+    (Run workers tries stats a b results tell metrics trace kept checkpoint over beside) named says =
     absurd (world_not_run (sym is ∙ named))
-wants_world name rows log audit script is flag other path (Partitioned workers tries a l s) named says = absurd (world_not_run (sym is ∙ named))
+wants_world name rows log audit script is flag other path (Partitioned workers tries a b l s) named says = absurd (world_not_run (sym is ∙ named))
 wants_world name rows log audit script is flag other path (Log beside) named says = absurd (world_not_log (sym is ∙ named))
 
 pub wants_run : (name : List ℕ) (rows : List Row) (result : Result Task WordFault) → name ≡ codes "run"
-    → ((workers tries : ℕ) (stats audit results tell : Bool)
+    → ((workers tries : ℕ) (stats audit strict results tell : Bool)
     (metrics trace log : Option (List ℕ)) (checkpoint : Bool) (over : Option ℕ) (script : Option (List ℕ))
-    → SaysRun rows workers tries stats audit results tell metrics trace log checkpoint over script
-    → IsTaskOrNoMemory (Run workers tries stats audit results tell metrics trace log checkpoint over script) result)
-    → ((workers tries : ℕ) (audit : Bool) (log script : Option (List ℕ)) → SaysPartitioned rows workers tries audit log script
-    → IsTaskOrNoMemory (Partitioned workers tries audit log script) result)
+    → SaysRun rows workers tries stats audit strict results tell metrics trace log checkpoint over script
+    → IsTaskOrNoMemory (Run workers tries stats audit strict results tell metrics trace log checkpoint over script) result)
+    → ((workers tries : ℕ) (audit strict : Bool) (log script : Option (List ℕ)) → SaysPartitioned rows workers tries audit strict log script
+    → IsTaskOrNoMemory (Partitioned workers tries audit strict log script) result)
     → (wish : Wish) → name ≡ command_name wish → SaysWish rows wish → IsTaskOrNoMemory wish result
 wants_run name rows result is all divides (Exec r ns) named says = absurd (exec_not_run (sym named ∙ is))
 wants_run name rows result is all divides Asm named says = absurd (asm_not_run (sym named ∙ is))
 wants_run name rows result is all divides (Dis r) named says = absurd (dis_not_run (sym named ∙ is))
 wants_run name rows result is all divides Verify named says = absurd (verify_not_run (sym named ∙ is))
 wants_run name rows result is all divides (World log audit script) named says = absurd (world_not_run (sym named ∙ is))
-wants_run name rows result is all divides (Run workers tries stats audit results tell metrics trace log checkpoint over script) named says =
-    all workers tries stats audit results tell metrics trace log checkpoint over script says
-wants_run name rows result is all divides (Partitioned workers tries audit log script) named says = divides workers tries audit log script says
+wants_run name rows result is all divides (Run workers tries stats audit strict results tell metrics trace log checkpoint over script) named says =
+    all workers tries stats audit strict results tell metrics trace log checkpoint over script says
+wants_run name rows result is all divides (Partitioned workers tries audit strict log script) named says = divides workers tries audit strict log script says
 wants_run name rows result is all divides (Log script) named says = absurd (log_not_run (sym named ∙ is))
 
 pub wants_log : (name : List ℕ) (rows : List Row) (result : Result Task WordFault) → name ≡ codes "log"
@@ -184,9 +184,9 @@ wants_log name rows result is all (Dis r) named says = absurd (dis_not_log (sym 
 wants_log name rows result is all Verify named says = absurd (verify_not_log (sym named ∙ is))
 wants_log name rows result is all (World log audit script) named says = absurd (world_not_log (sym named ∙ is))
 wants_log name rows result is all
-    (Run workers tries stats audit results tell metrics trace log checkpoint over script) named says =
+    (Run workers tries stats audit strict results tell metrics trace log checkpoint over script) named says =
     absurd (log_not_run (sym is ∙ named))
-wants_log name rows result is all (Partitioned workers tries a l s) named says = absurd (log_not_run (sym is ∙ named))
+wants_log name rows result is all (Partitioned workers tries a b l s) named says = absurd (log_not_run (sym is ∙ named))
 wants_log name rows result is all (Log wanted) named says = all wanted says
 
 -- ---- a log's file

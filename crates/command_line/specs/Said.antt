@@ -59,6 +59,9 @@ checkpoint_rule = record (new_rule (codes "checkpoint")) { long = Some (codes "c
 abbrev pub partitions_rule : Rule
 partitions_rule = record (new_rule (codes "partitions")) { long = Some (codes "partitions"); action = Some SetTrue }
 
+abbrev pub strict_rule : Rule
+strict_rule = record (new_rule (codes "strict")) { long = Some (codes "strict"); action = Some SetTrue }
+
 -- exec [--raw] FILE [ARG]...
 abbrev pub exec_app : App
 exec_app = with_rule (with_rule (with_rule (new_app (codes "exec")) raw_rule) file_rule) arg_rule
@@ -83,9 +86,9 @@ world_app = with_rule (with_rule (with_rule (with_rule (new_app (codes "world"))
 abbrev pub counted_app : App
 counted_app = with_rule (with_rule (new_app (codes "run")) (option_rule (codes "workers"))) (option_rule (codes "tries"))
 
--- run [--workers N] [--tries N] [--stats] [--audit] [--results] [--tell]
+-- run [--workers N] [--tries N] [--stats] [--audit] [--strict] [--results] [--tell]
 abbrev pub told_app : App
-told_app = with_rule (with_rule (with_rule (with_rule counted_app stats_rule) audit_rule) results_rule) tell_rule
+told_app = with_rule (with_rule (with_rule (with_rule (with_rule counted_app stats_rule) audit_rule) strict_rule) results_rule) tell_rule
 
 -- and behind it [--metrics PROM] [--trace JSON] [--log LOG]
 abbrev pub logged_app : App
@@ -162,9 +165,9 @@ abbrev pub wants_checkpoint : Bool → Option ℕ → Bool
 wants_checkpoint checkpoint over = checkpoint || is_some over
 
 -- 4 workers and 3 tries, where nothing is said of them; a checkpoint is that of a log, and nothing is partitioned
-abbrev pub SaysRun : List Row → (workers tries : ℕ) → (stats audit results tell : Bool)
+abbrev pub SaysRun : List Row → (workers tries : ℕ) → (stats audit strict results tell : Bool)
     → (metrics trace log : Option Text) → Bool → Option ℕ → Option Text → Type 0
-SaysRun rows workers tries stats audit results tell metrics trace log checkpoint over script =
+SaysRun rows workers tries stats audit strict results tell metrics trace log checkpoint over script =
     SaysCount (first_of (codes "workers") rows) 4 workers × SaysCount (first_of (codes "tries") rows) 3 tries
     × IsFlag stats (one_of (codes "stats") rows) × IsFlag audit (one_of (codes "audit") rows)
     × IsFlag results (one_of (codes "results") rows) × IsFlag tell (one_of (codes "tell") rows)
@@ -172,6 +175,7 @@ SaysRun rows workers tries stats audit results tell metrics trace log checkpoint
     × (first_of (codes "log") rows ≡ log) × IsFlag checkpoint (one_of (codes "checkpoint") rows)
     × SaysNumberIf (first_of (codes "checkpoint-over") rows) over × (first_of (codes "script") rows ≡ script)
     × (log ≡ None → wants_checkpoint checkpoint over ≡ false) × IsFlag false (one_of (codes "partitions") rows)
+    × IsFlag strict (one_of (codes "strict") rows)
 
 -- nothing is asked for that is of all calls, or of the one log of all
 abbrev pub SaysNoMore : List Row → Type 0
@@ -191,11 +195,11 @@ pub data SaysMore (rows : List Row) : Type 0 where
   Over : is_some (first_of (codes "checkpoint-over") rows) ≡ true → SaysMore rows
 
 -- what a run by partitions takes, each of which may have a log of its own
-abbrev pub SaysPartitioned : List Row → (workers tries : ℕ) → (audit : Bool) → (log script : Option Text) → Type 0
-SaysPartitioned rows workers tries audit log script =
+abbrev pub SaysPartitioned : List Row → (workers tries : ℕ) → (audit strict : Bool) → (log script : Option Text) → Type 0
+SaysPartitioned rows workers tries audit strict log script =
     SaysCount (first_of (codes "workers") rows) 4 workers × SaysCount (first_of (codes "tries") rows) 3 tries
     × IsFlag audit (one_of (codes "audit") rows) × (first_of (codes "log") rows ≡ log) × (first_of (codes "script") rows ≡ script)
-    × IsFlag true (one_of (codes "partitions") rows) × SaysNoMore rows
+    × IsFlag true (one_of (codes "partitions") rows) × SaysNoMore rows × IsFlag strict (one_of (codes "strict") rows)
 
 -- from which place on, or how many at the end: one of both at most, and the whole log where neither is said
 abbrev pub SaysPart : (from tail : Option Text) → Part → Type 0
@@ -231,9 +235,9 @@ SaysWish rows (Dis raw) = IsFlag raw (one_of (codes "raw") rows)
 SaysWish rows Verify = Unit {0}
 SaysWish rows (World log audit script) =
     IsFlag log (one_of (codes "log") rows) × IsFlag audit (one_of (codes "audit") rows) × (first_of (codes "script") rows ≡ script)
-SaysWish rows (Run workers tries stats audit results tell metrics trace log checkpoint over script) =
-    SaysRun rows workers tries stats audit results tell metrics trace log checkpoint over script
-SaysWish rows (Partitioned workers tries audit log script) = SaysPartitioned rows workers tries audit log script
+SaysWish rows (Run workers tries stats audit strict results tell metrics trace log checkpoint over script) =
+    SaysRun rows workers tries stats audit strict results tell metrics trace log checkpoint over script
+SaysWish rows (Partitioned workers tries audit strict log script) = SaysPartitioned rows workers tries audit strict log script
 SaysWish rows (Log wanted) = SaysLog rows wanted
 
 -- the words are a command line of the program, and say this command with this file

@@ -23,8 +23,8 @@ pub data Wish : Type 0 where
   Dis : (raw : Bool) → Wish
   Verify : Wish
   World : (log audit : Bool) (script : Option (List ℕ)) → Wish
-  Run : (workers tries : ℕ) (stats audit results tell : Bool) (metrics trace log : Option (List ℕ)) (checkpoint : Bool) (over : Option ℕ) (script : Option (List ℕ)) → Wish
-  Partitioned : (workers tries : ℕ) (audit : Bool) (log script : Option (List ℕ)) → Wish
+  Run : (workers tries : ℕ) (stats audit strict results tell : Bool) (metrics trace log : Option (List ℕ)) (checkpoint : Bool) (over : Option ℕ) (script : Option (List ℕ)) → Wish
+  Partitioned : (workers tries : ℕ) (audit strict : Bool) (log script : Option (List ℕ)) → Wish
   Log : (wanted : LogWish) → Wish
 
 abbrev pub command_name : Wish → List ℕ
@@ -33,8 +33,8 @@ command_name Asm = codes "asm"
 command_name (Dis raw) = codes "dis"
 command_name Verify = codes "verify"
 command_name (World log audit script) = codes "world"
-command_name (Run workers tries stats audit results tell metrics trace log checkpoint over script) = codes "run"
-command_name (Partitioned workers tries audit log script) = codes "run"
+command_name (Run workers tries stats audit strict results tell metrics trace log checkpoint over script) = codes "run"
+command_name (Partitioned workers tries audit strict log script) = codes "run"
 command_name (Log wanted) = codes "log"
 
 abbrev pub log_wish : LogTask → LogWish
@@ -51,10 +51,10 @@ wish_of (task.Dis raw) = Dis raw
 wish_of task.Verify = Verify
 wish_of (task.World log audit script) = World log audit (option_map (λ path. path.now) script)
 wish_of (task.Run r) =
-    Run r.workers r.tries r.stats r.audit r.results r.tell (option_map (λ path. path.now) r.metrics) (option_map (λ path. path.now) r.trace)
+    Run r.workers r.tries r.stats r.audit r.strict r.results r.tell (option_map (λ path. path.now) r.metrics) (option_map (λ path. path.now) r.trace)
     (option_map (λ path. path.now) r.log) r.checkpoint r.over (option_map (λ path. path.now) r.script)
 wish_of (task.Partitioned r) =
-    Partitioned r.workers r.tries r.audit (option_map (λ path. path.now) r.log) (option_map (λ path. path.now) r.script)
+    Partitioned r.workers r.tries r.audit r.strict (option_map (λ path. path.now) r.log) (option_map (λ path. path.now) r.script)
 wish_of (task.Log wanted) = Log (log_wish wanted)
 
 -- whether what FILE has is to be UTF-8: an object file isn't, beside which a script stands
@@ -64,11 +64,12 @@ reads_text Asm = true
 reads_text (Dis raw) = false
 reads_text Verify = true
 reads_text (World log audit script) = is_none script
-reads_text (Run workers tries stats audit results tell metrics trace log checkpoint over script) = is_none script
-reads_text (Partitioned workers tries audit log script) = is_none script
+reads_text (Run workers tries stats audit strict results tell metrics trace log checkpoint over script) = is_none script
+reads_text (Partitioned workers tries audit strict log script) = is_none script
 reads_text (Log wanted) = false
 
--- whether there may be something to tell on standard error: a run that is asked for its figures
-abbrev pub wants_figures : Wish → Bool
-wants_figures (Run workers tries stats audit results tell metrics trace log checkpoint over script) = stats
-wants_figures other = false
+-- whether there may be something to tell on standard error: a run's figures, or which data components are full
+abbrev pub may_tell : Wish → Bool
+may_tell (Run workers tries stats audit strict results tell metrics trace log checkpoint over script) = true
+may_tell (Partitioned workers tries audit strict log script) = true
+may_tell other = false

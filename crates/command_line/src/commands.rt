@@ -7,7 +7,7 @@ ghost use Rattle.command_line.specs.Task.{Run};
 ghost use Rattle.command_line.specs.Said.{procd_app, exec_app, asm_app, dis_app, verify_app, world_app, told_app, kept_app, run_app, log_app};
 ghost use Rattle.command_line.specs.Said.{file_rule, raw_rule, log_rule, audit_rule, rows_rule};
 ghost use Rattle.command_line.specs.Said.{follow_rule, source_rule, script_rule, option_rule, stats_rule};
-ghost use Rattle.command_line.specs.Said.{results_rule, tell_rule, checkpoint_rule, partitions_rule};
+ghost use Rattle.command_line.specs.Said.{results_rule, tell_rule, checkpoint_rule, partitions_rule, strict_rule};
 
 use clap::{Arg, ArgAction, Command};
 use std::alloc::{AllocError, Global};
@@ -174,6 +174,19 @@ fn stats_arg<'a>(alloc: Global) -> Arg<'a>
         )
 }
 
+// --strict
+fn strict_arg<'a>(alloc: Global) -> Arg<'a>
+    ensures rule { rule_of result ≡ strict_rule }
+    ensures local { result.global ≡ false }
+{
+    Arg::new(alloc, "strict")
+        .long("strict")
+        .action(ArgAction::SetTrue)
+        .help(
+            "End with status 1 where a `call` line's call is neither committed nor aborted by its procedure",
+        )
+}
+
 // --results
 fn results_arg<'a>(alloc: Global) -> Arg<'a>
     ensures rule { rule_of result ≡ results_rule }
@@ -225,7 +238,7 @@ fn partitions_arg<'a>(alloc: Global) -> Arg<'a>
         )
 }
 
-// `run [--workers N] [--tries N] [--stats] [--audit] [--results] [--tell]`
+// `run [--workers N] [--tries N] [--stats] [--audit] [--strict] [--results] [--tell]`
 fn told_command<'a>(alloc: Global) -> Result<Command<'a>, AllocError>
     ensures app { IfOk result (λ c. app_of c ≡ told_app) }
     ensures local { IfOk result (λ c. (out-Command c).has_globals ≡ false) }
@@ -246,7 +259,8 @@ fn told_command<'a>(alloc: Global) -> Result<Command<'a>, AllocError>
     let with_tries = with_arg(with_workers, tries);
     let with_stats = with_arg(with_tries, stats_arg(alloc));
     let with_audit = with_arg(with_stats, audit_arg(alloc));
-    let with_results = with_arg(with_audit, results_arg(alloc));
+    let with_strict = with_arg(with_audit, strict_arg(alloc));
+    let with_results = with_arg(with_strict, results_arg(alloc));
     with_arg(with_results, tell_arg(alloc))
 }
 

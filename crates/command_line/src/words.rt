@@ -62,6 +62,8 @@ pub struct RunTask<'a> {
     pub stats: bool,
     /// Whether what an audit finds is printed behind the rows.
     pub audit: bool,
+    /// Whether the status is 1 where a call was neither committed nor aborted by its procedure.
+    pub strict: bool,
     /// Whether what the slots of each call that committed hold is printed behind its line.
     pub results: bool,
     /// Whether standard error is told of each answer as soon as it stands.
@@ -86,6 +88,7 @@ pub struct PartitionedTask<'a> {
     pub workers: u64,
     pub tries: u64,
     pub audit: bool,
+    pub strict: bool,
     /// The path of the files that keep the logs, but for the partition's number behind it.
     pub log: Option<&'a str>,
     pub script: Option<&'a str>,
@@ -112,16 +115,13 @@ pub enum LogTask<'a> {
 
 impl Task<'_> {
     ghost use Rattle.std.specs.Prelude.{◌≡◌};
-    ghost use Rattle.command_line.specs.Task.{wants_figures, wish_of};
+    ghost use Rattle.command_line.specs.Task.{may_tell, wish_of};
 
-    /// Whether figures are to be told on standard error.
-    pub fn wants_figures(&self) -> bool
-        ensures { result ≡ wants_figures (wish_of self.now) }
+    /// Whether there may be something to tell on standard error: a run's figures, or which data components are full.
+    pub fn may_tell(&self) -> bool
+        ensures { result ≡ may_tell (wish_of self.now) }
     {
-        match self {
-            Task::Run(task) => task.stats,
-            _ => false,
-        }
+        matches!(self, Task::Run(_) | Task::Partitioned(_))
     }
 }
 
@@ -292,9 +292,9 @@ fn partitioned_task<'a>(
     workers: u64,
     tries: u64,
 ) -> Result<Task<'a>, WordFault>
-    ensures task { (audit : Bool) (log script : Option (List ℕ))
-        → SaysPartitioned (rows_of (found_of matches.now)) workers tries audit log script
-        → IsTaskOrNoMemory (Partitioned workers tries audit log script) result }
+    ensures task { (audit strict : Bool) (log script : Option (List ℕ))
+        → SaysPartitioned (rows_of (found_of matches.now)) workers tries audit strict log script
+        → IsTaskOrNoMemory (Partitioned workers tries audit strict log script) result }
     ensures wrong { IfOk result (λ task. ¬ SaysMore (rows_of (found_of matches.now))) }
     ensures err { IfErr result IsWordFault }
 {
@@ -305,6 +305,7 @@ fn partitioned_task<'a>(
         workers,
         tries,
         audit: flag_of(matches, "audit"),
+        strict: flag_of(matches, "strict"),
         log: text_of(matches, "log"),
         script: text_of(matches, "script"),
     }))
@@ -312,12 +313,12 @@ fn partitioned_task<'a>(
 
 // How calls are to be run.
 fn run_task<'a>(matches: &ArgMatches<'a>) -> Result<Task<'a>, WordFault>
-    ensures task { (workers tries : ℕ) (stats audit results tell : Bool) (metrics trace log : Option (List ℕ)) (checkpoint : Bool) (over : Option ℕ)
-        (script : Option (List ℕ)) → SaysRun (rows_of (found_of matches.now)) workers tries stats audit results tell metrics trace log checkpoint over script
-        → IsTaskOrNoMemory (Run workers tries stats audit results tell metrics trace log checkpoint over script) result }
-    ensures partitioned { (workers tries : ℕ) (audit : Bool) (log script : Option (List ℕ))
-        → SaysPartitioned (rows_of (found_of matches.now)) workers tries audit log script
-        → IsTaskOrNoMemory (Partitioned workers tries audit log script) result }
+    ensures task { (workers tries : ℕ) (stats audit strict results tell : Bool) (metrics trace log : Option (List ℕ)) (checkpoint : Bool) (over : Option ℕ)
+        (script : Option (List ℕ)) → SaysRun (rows_of (found_of matches.now)) workers tries stats audit strict results tell metrics trace log checkpoint over script
+        → IsTaskOrNoMemory (Run workers tries stats audit strict results tell metrics trace log checkpoint over script) result }
+    ensures partitioned { (workers tries : ℕ) (audit strict : Bool) (log script : Option (List ℕ))
+        → SaysPartitioned (rows_of (found_of matches.now)) workers tries audit strict log script
+        → IsTaskOrNoMemory (Partitioned workers tries audit strict log script) result }
     ensures wrong { IfOk result (λ task. ¬ IsUnfit (codes "run") (rows_of (found_of matches.now))) }
     ensures err { IfErr result IsWordFault }
 {
@@ -337,6 +338,7 @@ fn run_task<'a>(matches: &ArgMatches<'a>) -> Result<Task<'a>, WordFault>
         tries,
         stats: flag_of(matches, "stats"),
         audit: flag_of(matches, "audit"),
+        strict: flag_of(matches, "strict"),
         results: flag_of(matches, "results"),
         tell: flag_of(matches, "tell"),
         metrics: text_of(matches, "metrics"),

@@ -1,5 +1,5 @@
 -- The answers and the data components of all partitions together.
-use Rattle.std.proofs.Common.{arith, inl, inr, ◌≡◌, ◌∙◌, ◌<◌, ◌+◌, ℕ, Bool, true, false, max, List, [], ◌∷◌, ◌++◌, length, map, take, get_or, refl, sym, ap, subst}
+use Rattle.std.proofs.Common.{add-zero, arith, inl, inr, ◌≡◌, ◌∙◌, ◌<◌, ◌+◌, ℕ, Bool, true, false, max, List, [], ◌∷◌, ◌++◌, length, map, take, get_or, refl, sym, ap, subst}
 use Rattle.std.specs.Prelude.{◌&&◌, if◌then◌else◌, Option, Some, None, option_map, slice_get, Result, Ok, Err, IfOk, All, codes, string_bytes}
 use Rattle.std.specs.List.{list_any}
 use Rattle.std.specs.Global.{Vec}
@@ -28,8 +28,10 @@ use Rattle.tc_core.specs.Admission.{call_of}
 use Rattle.tc_core.specs.Core.{Core}
 use Rattle.tc_core.specs.declared.state.Call.{Call}
 use Rattle.worker_pool.specs.declared.answer.Answer.{Answer}
+use Rattle.run_calls.specs.Figures.{full_line, full_lines}
+use Rattle.run_calls.proofs.FullLemmas.{lines_push}
 use Rattle.run_ground.specs.declared.ground.Ground.{Ground}
-use Rattle.run_calls.specs.Answered.{AreCallsOf, said_call, is_want_of_memory}
+use Rattle.run_calls.specs.Answered.{AreCallsOf, said_call, is_want_of_memory, run_status}
 use Rattle.run_calls.specs.AnswerLines.{answer_lines, fault_line}
 use Rattle.run_calls.specs.Stops.{Stops}
 use Rattle.run_ground.specs.declared.stop.Stop.{Stop}
@@ -37,7 +39,7 @@ use Rattle.worker_pool.specs.Faults.{InRange}
 use Rattle.partitioned_run.specs.declared.answering.PartitionOutcome.{PartitionOutcome}
 use Rattle.partitioned_run.specs.declared.dividing.Division.{Division}
 use Rattle.partitioned_run.specs.declared.reporting.Outcomes.{Outcomes}
-use Rattle.partitioned_run.specs.Partitioned.{decl_of, partition_of_call, IsAnsweredBy, AddsAuditOf, AddsAudits, kept_dc, kept_dcs, kept_from}
+use Rattle.partitioned_run.specs.Partitioned.{decl_of, partition_of_call, IsAnsweredBy, AddsAuditOf, AddsAudits, AddsAuditsFrom, kept_dc, kept_dcs, kept_from}
 use Rattle.partitioned_run.specs.Partitioned.{AreRunApart, Ran as Begun, Stopped}
 use Rattle.partitioned_run.specs.Logged.{front_lines, AreRunFrom, Behind, IsContentsRun, IsPartitionedBy, IsPartitionedRun, IsRunFrom, Refused}
 use Rattle.partitioned_run.specs.declared.grounds.Start.{Start}
@@ -202,7 +204,7 @@ module _ (c : Contents) (d : Division) (starts : List Start) (all : Outcomes) (n
 
   -- what is printed of them
   pub run_apart : (IsAnswered : ℕ → (first calls : List said.Call) → (first_answers other_answers : List Answer) → Option Ground → Type 0)
-      (front : List ℕ) (first_answers other_answers : List Answer) (audit : Bool) (answered kept lines : List ℕ) (sound : Bool) (status : ℕ)
+      (front : List ℕ) (first_answers other_answers : List Answer) (audit strict : Bool) (answered kept lines : List ℕ) (sound : Bool) (status : ℕ)
       (empty : List Store)
       → ((p : ℕ) (behind : Option Ground) → slice_get all.grounds.items p ≡ Some behind
       → AreRunFrom (begun c) (empty_stores c) starts p
@@ -218,9 +220,9 @@ module _ (c : Contents) (d : Division) (starts : List Start) (all : Outcomes) (n
       → (list_any is_want_of_memory first_answers ≡ false) × (list_any is_want_of_memory other_answers ≡ false)
       → answered ≡ front ++ (answer_lines (codes "first") first_answers ++ answer_lines (codes "call") other_answers) → empty ≡ empty_stores c
       → AddsRowLines (kept_dcs d.partitions all.grounds.items empty) answered kept → AddsAudits audit all.grounds.items kept lines sound
-      → status ≡ (if sound then 0 else 1)
-      → AreRunApart IsAnswered front (begun c).procs (empty_stores c) c.first c.calls audit status lines
-  run_apart IsAnswered front first_answers other_answers audit answered kept lines sound status empty so firsts others ample told empty_is rows found status_is = record {
+      → status ≡ run_status strict other_answers sound
+      → AreRunApart IsAnswered front (begun c).procs (empty_stores c) c.first c.calls audit strict status lines
+  run_apart IsAnswered front first_answers other_answers audit strict answered kept lines sound status empty so firsts others ample told empty_is rows found status_is = record {
     numbers = d.partitions;
     partitions = partitions_are c d numbered;
     first_answers = first_answers;
@@ -248,28 +250,28 @@ plain_from start dcs ground first calls first_answers other_answers behind none 
     subst (λ (g : Option Ground). IsRunFrom start dcs g first calls first_answers other_answers behind) none from
 
 -- with files or without any
-pub run_so : (keeps : Bool) (c : Contents) (d : Division) (front : List ℕ) (all : Outcomes) (first_answers other_answers : List Answer) (audit : Bool)
+pub run_so : (keeps : Bool) (c : Contents) (d : Division) (front : List ℕ) (all : Outcomes) (first_answers other_answers : List Answer) (audit strict : Bool)
     (answered kept lines : List ℕ) (sound : Bool) (status : ℕ) (empty : List Store) → AreDivided c d → HaveRun keeps c d front all
     → IsMerged d.first.items all.first.items first_answers → IsMerged d.calls.items all.calls.items other_answers
     → (list_any is_want_of_memory first_answers ≡ false) × (list_any is_want_of_memory other_answers ≡ false)
     → answered ≡ front ++ (answer_lines (codes "first") first_answers ++ answer_lines (codes "call") other_answers) → empty ≡ empty_stores c
     → AddsRowLines (kept_dcs d.partitions all.grounds.items empty) answered kept → AddsAudits audit all.grounds.items kept lines sound
-    → status ≡ (if sound then 0 else 1) → IsRunSo keeps c audit status lines
+    → status ≡ run_status strict other_answers sound → IsRunSo keeps c audit strict status lines
 unfolding run_apart
-run_so true c d front all first_answers other_answers audit answered kept lines sound status empty numbered h firsts others ample told empty_is rows found status_is =
+run_so true c d front all first_answers other_answers audit strict answered kept lines sound status empty numbered h firsts others ample told empty_is rows found status_is =
     let said = answer_lines (codes "first") first_answers ++ answer_lines (codes "call") other_answers in
     record {
       starts = h.starts;
       run = run_apart c d h.starts all numbered h.run (AreRunFrom (begun c) (empty_stores c) h.starts) (front_lines h.starts) first_answers other_answers
-          audit answered kept lines sound status empty (λ p behind is from. from) firsts others ample
+          audit strict answered kept lines sound status empty (λ p behind is from. from) firsts others ample
           (told ∙ ap (λ (f : List ℕ). f ++ said) h.told) empty_is rows found status_is;
       each = sym h.run.grounds;
       back = h.are;
     }
-run_so false c d front all first_answers other_answers audit answered kept lines sound status empty numbered h firsts others ample told empty_is rows found status_is =
+run_so false c d front all first_answers other_answers audit strict answered kept lines sound status empty numbered h firsts others ample told empty_is rows found status_is =
     let said = answer_lines (codes "first") first_answers ++ answer_lines (codes "call") other_answers in
     run_apart c d h.starts all numbered h.run (λ _. IsAnsweredBy (begun c) (empty_stores c)) [] first_answers other_answers
-    audit answered kept lines sound status empty
+    audit strict answered kept lines sound status empty
     (λ p behind is from.
     let s = found_at h.starts p (omega (arith, slice_get_within all.grounds.items p behind is, h.run.grounds)) in
     plain_from _ _ s.0.ground _ _ _ _ behind (no_start (begun c) (empty_stores c) d.partitions p s.0.ground s.0.lines (h.are p s.0 s.1).1).0 (from s.0 s.1))
@@ -278,30 +280,30 @@ run_so false c d front all first_answers other_answers audit answered kept lines
 
 -- ---- the report of calls none of which is begun
 
-pub stopped_so : (keeps : Bool) (c : Contents) (workers tries : ℕ) (audit : Bool) (stop : Stop) (status : ℕ) (lines : List ℕ) → Stops false workers tries stop
-    → fault_line stop ≡ Some lines → status ≡ 1 → IsContentsRun keeps c workers tries audit status lines
-stopped_so false c workers tries audit stop status lines stops line is = Stopped stop stops is line
-stopped_so true c workers tries audit stop status lines stops line is = Behind (Stopped stop stops is line)
+pub stopped_so : (keeps : Bool) (c : Contents) (workers tries : ℕ) (audit strict : Bool) (stop : Stop) (status : ℕ) (lines : List ℕ) → Stops false workers tries stop
+    → fault_line stop ≡ Some lines → status ≡ 1 → IsContentsRun keeps c workers tries audit strict status lines
+stopped_so false c workers tries audit strict stop status lines stops line is = Stopped stop stops is line
+stopped_so true c workers tries audit strict stop status lines stops line is = Behind (Stopped stop stops is line)
 
-ran_so : (keeps : Bool) (c : Contents) (workers tries : ℕ) (audit : Bool) (status : ℕ) (lines : List ℕ) → InRange workers tries
-    → IsRunSo keeps c audit status lines → IsContentsRun keeps c workers tries audit status lines
-ran_so false c workers tries audit status lines range run = Begun range run
-ran_so true c workers tries audit status lines range run = Behind (Begun range run)
+ran_so : (keeps : Bool) (c : Contents) (workers tries : ℕ) (audit strict : Bool) (status : ℕ) (lines : List ℕ) → InRange workers tries
+    → IsRunSo keeps c audit strict status lines → IsContentsRun keeps c workers tries audit strict status lines
+ran_so false c workers tries audit strict status lines range run = Begun range run
+ran_so true c workers tries audit strict status lines range run = Behind (Begun range run)
 
-pub ran_apart : {E : Type 0} (keeps : Bool) (c : Contents) (workers tries : ℕ) (audit : Bool) (report : Result Output E) → InRange workers tries
-    → IfOk report (λ r. IsRunSo keeps c audit r.status (string_bytes r.lines))
-    → IfOk report (λ r. IsContentsRun keeps c workers tries audit r.status (string_bytes r.lines))
-ran_apart keeps c workers tries audit (Ok r) range run = ran_so keeps c workers tries audit r.status (string_bytes r.lines) range run
-ran_apart keeps c workers tries audit (Err e) range run = tt
+pub ran_apart : {E : Type 0} (keeps : Bool) (c : Contents) (workers tries : ℕ) (audit strict : Bool) (report : Result Output E) → InRange workers tries
+    → IfOk report (λ r. IsRunSo keeps c audit strict r.status (string_bytes r.lines))
+    → IfOk report (λ r. IsContentsRun keeps c workers tries audit strict r.status (string_bytes r.lines))
+ran_apart keeps c workers tries audit strict (Ok r) range run = ran_so keeps c workers tries audit strict r.status (string_bytes r.lines) range run
+ran_apart keeps c workers tries audit strict (Err e) range run = tt
 
 -- the file of a partition is refused
-pub refused_apart : (keeps : Bool) (c : Contents) (d : Division) (workers tries : ℕ) (audit : Bool) (report : Output) → AreDivided c d
+pub refused_apart : (keeps : Bool) (c : Contents) (d : Division) (workers tries : ℕ) (audit strict : Bool) (report : Output) → AreDivided c d
     → (keeps ≡ true) × ((p : ℕ) × IsRefusedAt (begun c) (empty_stores c) d.partitions p report)
-    → IsContentsRun keeps c workers tries audit report.status (string_bytes report.lines)
-refused_apart true c d workers tries audit report numbered h =
+    → IsContentsRun keeps c workers tries audit strict report.status (string_bytes report.lines)
+refused_apart true c d workers tries audit strict report numbered h =
     let at = h.1.1 in
     Refused d.partitions (partitions_are c d numbered) h.1.0 at.1.0 at.1.1 at.0 at.1.2
-refused_apart false c d workers tries audit report numbered h = absurd (cc)
+refused_apart false c d workers tries audit strict report numbered h = absurd (cc)
 
 -- ---- what was read is what the script says
 
@@ -327,12 +329,12 @@ may_be_run object b (accepted.Accepted a) is = (
 )
 may_be_run object b (accepted.Refused report) is = is
 
-pub accepted_run : (keeps : Bool) (b : Beginning) (s : Script) (workers tries : ℕ) (audit : Bool) (status : ℕ) (lines : List ℕ) → b.refusal ≡ None
-    → contents_of s ≡ b.contents → IsContentsRun keeps (contents_of s) workers tries audit status lines
-    → IsPartitionedRun keeps workers tries audit b status lines
-accepted_run keeps b s workers tries audit status lines none is run =
-    subst (λ (refusal : Option (List ℕ)). IsPartitionedBy keeps refusal b.contents workers tries audit status lines) (sym none)
-    (subst (λ (c : Contents). IsContentsRun keeps c workers tries audit status lines) is run)
+pub accepted_run : (keeps : Bool) (b : Beginning) (s : Script) (workers tries : ℕ) (audit strict : Bool) (status : ℕ) (lines : List ℕ) → b.refusal ≡ None
+    → contents_of s ≡ b.contents → IsContentsRun keeps (contents_of s) workers tries audit strict status lines
+    → IsPartitionedRun keeps workers tries audit strict b status lines
+accepted_run keeps b s workers tries audit strict status lines none is run =
+    subst (λ (refusal : Option (List ℕ)). IsPartitionedBy keeps refusal b.contents workers tries audit strict status lines) (sym none)
+    (subst (λ (c : Contents). IsContentsRun keeps c workers tries audit strict status lines) is run)
 
 -- ---- one data component more, and one audit more
 
@@ -357,6 +359,26 @@ kept_more numbers grounds dcs i d kept rows old lines new lt done here is are mo
     ∙ (ap (λ (empty : Store). kept_dc numbers grounds i empty) (sym here) ∙ sym is))) in
     subst (λ (ds : List Store). AddsRowLines ds old new) (sym next) added
 
+kept_length : (numbers : List ℕ) (grounds : List (Option Ground)) (dc : ℕ) (dcs : List Store) → length (kept_from numbers grounds dc dcs) ≡ length dcs
+kept_length numbers grounds dc [] = refl
+kept_length numbers grounds dc (empty ∷ dcs) = ap (λ (n : ℕ). n + 1) (kept_length numbers grounds (dc + 1) dcs)
+
+-- behind the lines of those that are full comes that of the next
+pub full_more : (numbers : List ℕ) (grounds : List (Option Ground)) (dcs : List Store) (i : ℕ) (d kept : Store) (text new : List ℕ) → i < length dcs
+    → text ≡ full_lines (kept_dcs numbers grounds (take i dcs)) → d ≡ get_or dcs i d → kept ≡ kept_dc numbers grounds i d
+    → new ≡ text ++ full_line i kept → new ≡ full_lines (kept_dcs numbers grounds (take (i + 1) dcs))
+full_more numbers grounds dcs i d kept text new lt so_far here is more =
+    let before = kept_from numbers grounds 0 (take i dcs) in
+    let place : 0 + length (take i dcs) ≡ i = omega (arith, length-take-le i dcs (omega (arith, lt))) in
+    let count : 0 + length before ≡ i = ap (λ (n : ℕ). 0 + n) (kept_length numbers grounds 0 (take i dcs)) ∙ place in
+    let next : kept_from numbers grounds 0 (take (i + 1) dcs) ≡ before ++ kept ∷ [] =
+    ap (kept_from numbers grounds 0) (take_more dcs i d lt)
+    ∙ (kept_push numbers grounds 0 (take i dcs) (get_or dcs i d)
+    ∙ ap (λ (k : Store). before ++ k ∷ []) (ap (λ (n : ℕ). kept_dc numbers grounds n (get_or dcs i d)) place
+    ∙ (ap (λ (empty : Store). kept_dc numbers grounds i empty) (sym here) ∙ sym is))) in
+    more ∙ (ap (λ (l : List ℕ). l ++ full_line i kept) so_far
+    ∙ sym (ap full_lines next ∙ (lines_push 0 before kept ∙ ap (λ (n : ℕ). full_lines before ++ full_line n kept) count)))
+
 and_assoc : (a b c : Bool) → (a && (b && c)) ≡ ((a && b) && c)
 and_assoc true b c = refl
 and_assoc false b c = refl
@@ -365,26 +387,36 @@ and_true : (a : Bool) → (a && true) ≡ a
 and_true true = refl
 and_true false = refl
 
-pub audits_push : (audit : Bool) (grounds : List (Option Ground)) (ground : Option Ground) (old middle new : List ℕ) (sound one : Bool)
-    → AddsAudits audit grounds old middle sound → AddsAuditOf audit ground middle new one
-    → AddsAudits audit (grounds ++ ground ∷ []) old new (sound && one)
-audits_push audit [] ground old middle new sound one none adds =
-    (new, one, true, subst (λ (l : List ℕ). AddsAuditOf audit ground l new one) none.0 adds, (refl, refl), rw none.1 (sym (and_true one)))
-audits_push audit (g ∷ grounds) ground old middle new sound one h adds = (
-  h.0,
-  h.1,
-  h.2 && one,
-  h.3,
-  audits_push audit grounds ground h.0 middle new h.2 one h.4 adds,
-  ap (λ (s : Bool). s && one) h.5 ∙ sym (and_assoc h.1 h.2 one),
+audits_push : (audit : Bool) (p : ℕ) (grounds : List (Option Ground)) (ground : Option Ground) (old middle new : List ℕ) (sound one : Bool)
+    → AddsAuditsFrom audit p grounds old middle sound → AddsAuditOf audit (p + length grounds) ground middle new one
+    → AddsAuditsFrom audit p (grounds ++ ground ∷ []) old new (sound && one)
+audits_push audit p [] ground old middle new sound one none adds = (
+  new,
+  one,
+  true,
+  subst (λ (l : List ℕ). AddsAuditOf audit p ground l new one) none.0 (subst (λ (n : ℕ). AddsAuditOf audit n ground middle new one) (add-zero p) adds),
+  (refl, refl),
+  rw none.1 (sym (and_true one)),
 )
+audits_push audit p (g ∷ grounds) ground old middle new sound one h adds =
+    let place : p + length (g ∷ grounds) ≡ p + 1 + length grounds = omega arith in (
+      h.0,
+      h.1,
+      h.2 && one,
+      h.3,
+      audits_push audit (p + 1) grounds ground h.0 middle new h.2 one h.4
+          (subst (λ (n : ℕ). AddsAuditOf audit n ground middle new one) place adds),
+      ap (λ (s : Bool). s && one) h.5 ∙ sym (and_assoc h.1 h.2 one),
+    )
 
 pub audits_more : (audit : Bool) (grounds : List (Option Ground)) (i : ℕ) (d : Option Ground) (old middle new : List ℕ) (sound one both : Bool)
-    → i < length grounds → AddsAudits audit (take i grounds) old middle sound → d ≡ get_or grounds i d → AddsAuditOf audit d middle new one
+    → i < length grounds → AddsAudits audit (take i grounds) old middle sound → d ≡ get_or grounds i d → AddsAuditOf audit i d middle new one
     → both ≡ (sound && one)
     → AddsAudits audit (take (i + 1) grounds) old new both
 audits_more audit grounds i d old middle new sound one both lt done here adds is =
+    let place : i ≡ 0 + length (take i grounds) = omega (arith, length-take-le i grounds (omega (arith, lt))) in
     subst (λ (b : Bool). AddsAudits audit (take (i + 1) grounds) old new b) (sym is)
     (subst (λ (gs : List (Option Ground)). AddsAudits audit gs old new (sound && one)) (sym (take_more grounds i d lt))
-    (audits_push audit (take i grounds) (get_or grounds i d) old middle new sound one done
-    (subst (λ (ground : Option Ground). AddsAuditOf audit ground middle new one) here adds)))
+    (audits_push audit 0 (take i grounds) (get_or grounds i d) old middle new sound one done
+    (subst (λ (n : ℕ). AddsAuditOf audit n (get_or grounds i d) middle new one) place
+    (subst (λ (ground : Option Ground). AddsAuditOf audit i ground middle new one) here adds))))

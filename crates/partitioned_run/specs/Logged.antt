@@ -1,6 +1,6 @@
 -- What the calls of a script print when those of each partition are run apart, behind what a file of its own has.
 use Rattle.std.specs.Prelude.{◌≡◌, ◌⊎◌, ℕ, ◌==◌, Bool, true, false, ◌&&◌, List, [], ◌∷◌, ◌++◌, map, slice_get, length}
-use Rattle.std.specs.Prelude.{Option, Some, None, is_some, codes, decimal, string_bytes}
+use Rattle.std.specs.Prelude.{Option, Some, None, is_some, string_bytes}
 use Rattle.std.specs.List.{flat_map}
 use Rattle.std.specs.declared.alloc.Global.{Global}
 use Rattle.std.specs.declared.string.String.{String}
@@ -18,13 +18,9 @@ use Rattle.run_ground.specs.Kept.{FileJournal, KeepsLog}
 use Rattle.run_log.specs.Recovering.{IsLogFor, IsLogRefusal, IsBackTo}
 use Rattle.partitioned_run.specs.declared.grounds.Start.{Start}
 use Rattle.partitioned_run.specs.Belonging.{other_line, IsLogOfPartition, IsLogOfOther}
-use Rattle.partitioned_run.specs.Partitioned.{decl_of, AreRunApart, IsAnsweredBy, IsAnsweredPart, IsCallsRunApart, IsRunApart}
+use Rattle.partitioned_run.specs.Partitioned.{decl_of, partition_line, AreRunApart, IsAnsweredBy, IsAnsweredPart, IsCallsRunApart, IsRunApart}
 
 -- ---- what comes back
-
--- a line that names a partition
-abbrev pub partition_line : ℕ → List ℕ
-partition_line number = codes "partition " ++ (decimal number ++ codes "\n")
 
 -- the lines of what came back stand behind it; of a file that was new there is nothing to tell
 abbrev pub front_by : ℕ → List ℕ → List ℕ
@@ -94,28 +90,28 @@ AreRunFrom start dcs starts p first calls first_answers other_answers behind =
 -- ---- the report
 
 -- each partition comes back from its file, which is told before the answers, and its calls are run from there
-pub record AreRunBehind (c : Contents) (audit : Bool) (status : ℕ) (lines : List ℕ) : Type 0 where
+pub record AreRunBehind (c : Contents) (audit strict : Bool) (status : ℕ) (lines : List ℕ) : Type 0 where
   pub starts : List Start
-  pub run : AreRunApart (AreRunFrom (begun c) (empty_stores c) starts) (front_lines starts) (begun c).procs (empty_stores c) c.first c.calls audit status lines
+  pub run : AreRunApart (AreRunFrom (begun c) (empty_stores c) starts) (front_lines starts) (begun c).procs (empty_stores c) c.first c.calls audit strict status lines
   pub each : length starts ≡ length run.grounds
   pub back : AreStarts true (begun c) (empty_stores c) run.numbers starts
 
 -- no call is begun, since the file of a partition is refused; or they are run
-pub data IsRunBehind (c : Contents) (workers tries : ℕ) (audit : Bool) (status : ℕ) (lines : List ℕ) : Type 0 where
+pub data IsRunBehind (c : Contents) (workers tries : ℕ) (audit strict : Bool) (status : ℕ) (lines : List ℕ) : Type 0 where
   Refused : (numbers : List ℕ) → ArePartitions (length (empty_stores c)) (map decl_of (begun c).procs) numbers → (p : ℕ) (refusal : List ℕ)
       → IsFileRefusal (begun c) (empty_stores c) numbers p refusal → status ≡ 1 → lines ≡ partition_line p ++ refusal
-      → IsRunBehind c workers tries audit status lines
-  Behind : IsCallsRunApart (AreRunBehind c audit status lines) workers tries status lines → IsRunBehind c workers tries audit status lines
+      → IsRunBehind c workers tries audit strict status lines
+  Behind : IsCallsRunApart (AreRunBehind c audit strict status lines) workers tries status lines → IsRunBehind c workers tries audit strict status lines
 
 -- the calls of a script, with files or without any
-abbrev pub IsContentsRun : (keeps : Bool) → Contents → ℕ → ℕ → Bool → ℕ → List ℕ → Type 0
-IsContentsRun false c workers tries audit status lines = IsCallsRunApart (IsRunApart c audit status lines) workers tries status lines
-IsContentsRun true c workers tries audit status lines = IsRunBehind c workers tries audit status lines
+abbrev pub IsContentsRun : (keeps : Bool) → Contents → ℕ → ℕ → Bool → Bool → ℕ → List ℕ → Type 0
+IsContentsRun false c workers tries audit strict status lines = IsCallsRunApart (IsRunApart c audit strict status lines) workers tries status lines
+IsContentsRun true c workers tries audit strict status lines = IsRunBehind c workers tries audit strict status lines
 
-abbrev pub IsPartitionedBy : (keeps : Bool) → Option (List ℕ) → Contents → ℕ → ℕ → Bool → ℕ → List ℕ → Type 0
-IsPartitionedBy keeps (Some refusal) contents workers tries audit status lines = (status ≡ 1) × (lines ≡ refusal)
-IsPartitionedBy keeps None contents workers tries audit status lines = IsContentsRun keeps contents workers tries audit status lines
+abbrev pub IsPartitionedBy : (keeps : Bool) → Option (List ℕ) → Contents → ℕ → ℕ → Bool → Bool → ℕ → List ℕ → Type 0
+IsPartitionedBy keeps (Some refusal) contents workers tries audit strict status lines = (status ≡ 1) × (lines ≡ refusal)
+IsPartitionedBy keeps None contents workers tries audit strict status lines = IsContentsRun keeps contents workers tries audit strict status lines
 
 -- of a script that is refused no file is opened, and no call is made
-abbrev pub IsPartitionedRun : (keeps : Bool) → ℕ → ℕ → Bool → Beginning → ℕ → List ℕ → Type 0
-IsPartitionedRun keeps workers tries audit b status lines = IsPartitionedBy keeps b.refusal b.contents workers tries audit status lines
+abbrev pub IsPartitionedRun : (keeps : Bool) → ℕ → ℕ → Bool → Bool → Beginning → ℕ → List ℕ → Type 0
+IsPartitionedRun keeps workers tries audit strict b status lines = IsPartitionedBy keeps b.refusal b.contents workers tries audit strict status lines

@@ -1,6 +1,6 @@
 -- What the calls of a script print when those of each partition are run apart, and the exit status.
 use Rattle.std.specs.Prelude.{◌≡◌, ℕ, ◌+◌, Bool, true, false, ◌&&◌, if◌then◌else◌, List, [], ◌∷◌, ◌++◌, length, map, get_or, max, slice_get}
-use Rattle.std.specs.Prelude.{Option, Some, None, codes}
+use Rattle.std.specs.Prelude.{Option, Some, None, codes, decimal}
 use Rattle.std.specs.List.{list_any}
 use Rattle.access_slots.specs.Declaration.{Declaration}
 use Rattle.data_component.specs.Store.{Store}
@@ -18,7 +18,7 @@ use Rattle.worker_pool.specs.declared.answer.Answer.{Answer}
 use Rattle.run_ground.specs.declared.ground.Ground.{Ground}
 use Rattle.run_ground.specs.declared.stop.Stop.{Stop}
 use Rattle.run_calls.specs.AnswerLines.{answer_lines, fault_line}
-use Rattle.run_calls.specs.Answered.{AreCallsOf, AreAnswered, AreServed, is_want_of_memory}
+use Rattle.run_calls.specs.Answered.{AreCallsOf, AreAnswered, AreServed, is_want_of_memory, run_status}
 use Rattle.script_loading.specs.Loading.{begun, empty_stores}
 use Rattle.run_calls.specs.Stops.{Stops}
 
@@ -72,18 +72,25 @@ kept_from numbers grounds dc (empty ∷ dcs) = kept_dc numbers grounds dc empty 
 abbrev pub kept_dcs : List ℕ → List (Option Ground) → List Store → List Store
 kept_dcs numbers grounds dcs = kept_from numbers grounds 0 dcs
 
--- where it is wanted, what an audit finds of a partition with calls
-abbrev pub AddsAuditOf : Bool → Option Ground → (old new : List ℕ) → Bool → Type 0
-AddsAuditOf audit None old new sound = (new ≡ old) × (sound ≡ true)
-AddsAuditOf audit (Some behind) old new sound =
-    AddsIf audit old new sound (AddsAudit behind.state.procs behind.state.events behind.dcs.items old new sound)
+-- a line that names a partition
+abbrev pub partition_line : ℕ → List ℕ
+partition_line number = codes "partition " ++ (decimal number ++ codes "\n")
 
--- of all, one after another; the last value says whether nothing is wrong
+-- where it is wanted, what an audit finds of a partition with calls, behind the line that names it
+abbrev pub AddsAuditOf : Bool → ℕ → Option Ground → (old new : List ℕ) → Bool → Type 0
+AddsAuditOf audit p None old new sound = (new ≡ old) × (sound ≡ true)
+AddsAuditOf audit p (Some behind) old new sound =
+    AddsIf audit old new sound (AddsAudit behind.state.procs behind.state.events behind.dcs.items (old ++ partition_line p) new sound)
+
+-- of all, one after another, the first of which has this number; the last value says whether nothing is wrong
+abbrev pub AddsAuditsFrom : Bool → ℕ → List (Option Ground) → (old new : List ℕ) → Bool → Type 0
+AddsAuditsFrom audit p [] old new sound = (new ≡ old) × (sound ≡ true)
+AddsAuditsFrom audit p (behind ∷ grounds) old new sound =
+    (middle : List ℕ) × (first : Bool) × (others : Bool) × AddsAuditOf audit p behind old middle first
+    × AddsAuditsFrom audit (p + 1) grounds middle new others × (sound ≡ (first && others))
+
 abbrev pub AddsAudits : Bool → List (Option Ground) → (old new : List ℕ) → Bool → Type 0
-AddsAudits audit [] old new sound = (new ≡ old) × (sound ≡ true)
-AddsAudits audit (behind ∷ grounds) old new sound =
-    (middle : List ℕ) × (first : Bool) × (others : Bool) × AddsAuditOf audit behind old middle first
-    × AddsAudits audit grounds middle new others × (sound ≡ (first && others))
+AddsAudits audit grounds old new sound = AddsAuditsFrom audit 0 grounds old new sound
 
 -- ---- the report
 
@@ -91,7 +98,7 @@ AddsAudits audit (behind ∷ grounds) old new sound =
 -- front those of all answers are printed in the order of the calls, none of which is want of memory, then the rows of each data component behind
 -- the calls of its partition, and then, where it is wanted, what an audit finds of each partition that came to something
 pub record AreRunApart (IsAnswered : ℕ → (first calls : List said.Call) → (first_answers other_answers : List Answer) → Option Ground → Type 0)
-    (front : List ℕ) (procs : List Checked) (dcs : List Store) (first calls : List said.Call) (audit : Bool) (status : ℕ) (lines : List ℕ)
+    (front : List ℕ) (procs : List Checked) (dcs : List Store) (first calls : List said.Call) (audit strict : Bool) (status : ℕ) (lines : List ℕ)
     : Type 0 where
   pub numbers : List ℕ
   pub partitions : ArePartitions (length dcs) (map decl_of procs) numbers
@@ -112,7 +119,7 @@ pub record AreRunApart (IsAnswered : ℕ → (first calls : List said.Call) → 
       (front ++ (answer_lines (codes "first") first_answers ++ answer_lines (codes "call") other_answers)) kept
   pub sound : Bool
   pub found : AddsAudits audit grounds kept lines sound
-  pub status_is : status ≡ (if sound then 0 else 1)
+  pub status_is : status ≡ run_status strict other_answers sound
 
 -- they are run so, whatever they are answered, or it is printed why not
 pub data IsCallsRunApart (Run : Type 0) (workers tries status : ℕ) (lines : List ℕ) : Type 0 where
@@ -121,6 +128,6 @@ pub data IsCallsRunApart (Run : Type 0) (workers tries status : ℕ) (lines : Li
       → IsCallsRunApart Run workers tries status lines
 
 -- those of a script, none of whose partitions has a log's file: each begins with a state in which nothing has happened
-abbrev pub IsRunApart : Contents → Bool → ℕ → List ℕ → Type 0
-IsRunApart c audit status lines =
-    AreRunApart (λ _. IsAnsweredBy (begun c) (empty_stores c)) [] (begun c).procs (empty_stores c) c.first c.calls audit status lines
+abbrev pub IsRunApart : Contents → Bool → Bool → ℕ → List ℕ → Type 0
+IsRunApart c audit strict status lines =
+    AreRunApart (λ _. IsAnsweredBy (begun c) (empty_stores c)) [] (begun c).procs (empty_stores c) c.first c.calls audit strict status lines

@@ -5,7 +5,8 @@ ghost use Rattle.std.specs.List.{All};
 ghost use Rattle.coming_back.specs.Coming.{HasOnlyRows};
 ghost use Rattle.run_log.specs.Recovering.{IsOpened};
 ghost use Rattle.scripts.specs.Reading.{contents_of};
-ghost use Rattle.partitioned_run.specs.Logged.{front_lines, front_of, partition_line};
+ghost use Rattle.partitioned_run.specs.Logged.{front_lines, front_of};
+ghost use Rattle.partitioned_run.specs.Partitioned.{partition_line};
 ghost use Rattle.partitioned_run.specs.Joining.Dividing.{IsDivided};
 ghost use Rattle.partitioned_run.specs.Joining.Recovering.{AreRecovered, IsRecovered, IsRecoveredFrom};
 
@@ -27,8 +28,8 @@ pub fn file_of(alloc: Global, log: &str, number: usize) -> Result<String, AllocE
     format!(in alloc; "{log}.{number}")
 }
 
-// The line that names a partition.
-fn partition_line(alloc: Global, number: usize) -> Result<String, AllocError>
+/// The line that names a partition.
+pub fn partition_line(alloc: Global, number: usize) -> Result<String, AllocError>
     ensures { IfOk result (λ line. string_bytes line ≡ partition_line number) }
 {
     format!(in alloc; "partition {number}\n")

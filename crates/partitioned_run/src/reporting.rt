@@ -1,9 +1,10 @@
 //! What is printed of the calls of all partitions.
 
-ghost use Rattle.std.specs.Prelude.{◌≡◌, ◌++◌, ◌&&◌, [], ◌∷◌, List, Result, false, if◌then◌else◌, IfOk, OnOk, codes, string_bytes};
+ghost use Rattle.std.specs.Prelude.{◌≡◌, ◌++◌, ◌&&◌, [], ◌∷◌, List, Result, false, IfOk, OnOk, codes, string_bytes};
 ghost use Rattle.std.specs.List.{list_any};
 ghost use Rattle.run_ground.specs.declared.stop.Stop.{Stop as StopValue};
 ghost use Rattle.run_calls.specs.AnswerLines.{answer_lines};
+ghost use Rattle.run_calls.specs.Figures.{full_lines};
 ghost use Rattle.state_lines.specs.RowLines.{AddsRowLines};
 ghost use Rattle.run_calls.specs.Answered.{is_want_of_memory};
 ghost use Rattle.partitioned_run.specs.Partitioned.{AddsAuditOf, AddsAudits, dc_behind, kept_dc, kept_dcs};
@@ -12,11 +13,12 @@ ghost use Rattle.partitioned_run.specs.declared.answering.PartitionOutcome.{Part
 
 use crate::answering::PartitionOutcome;
 use crate::fault::Fault;
-use crate::recovering::file_of;
+use crate::recovering::{file_of, partition_line};
 use data_component::dc::Dc;
 use partitions::Partitions;
 use run_calls::answer_lines::write_answers;
 use run_calls::answering::has_want_of_memory;
+use run_calls::figures::full_line;
 use run_ground::ground::Ground;
 use run_ground::stop::Stop;
 use state_lines::audit_lines::write_audit_if;
@@ -158,18 +160,41 @@ pub fn write_kept(
     Ok(())
 }
 
-// Adds the line of an audit of a partition, where it has calls and that is wanted, and answers whether nothing is wrong.
+/// A line for each data component that is full behind the calls of its partition.
+pub fn full_kept(
+    alloc: Global,
+    partitions: &Partitions,
+    grounds: &[Option<Ground>],
+    empty: &[Dc],
+) -> Result<String, AllocError>
+    ensures { IfOk result (λ text. string_bytes text ≡ full_lines (kept_dcs partitions.now grounds.now empty.now)) }
+{
+    let mut text = String::new(alloc);
+    for (number, dc) in empty.iter().enumerate() {
+        let kept = kept_dc(partitions, grounds, number, dc);
+        let line = full_line(alloc, number, kept)?;
+        text.push_str(line.as_str())?;
+    }
+    Ok(text)
+}
+
+// Adds what an audit finds of the partition with this number, behind the line that names it, where it has calls and that is
+// wanted, and answers whether nothing is wrong.
 fn write_audit_of(
     alloc: Global,
     audit: bool,
+    number: usize,
     ground: &Option<Ground>,
     lines: &mut String,
 ) -> Result<bool, AllocError>
-    ensures { IfOk result (AddsAuditOf audit ground.now (string_bytes lines.old) (string_bytes lines.new)) }
+    ensures { IfOk result (AddsAuditOf audit number ground.now (string_bytes lines.old) (string_bytes lines.new)) }
 {
     match ground {
-        Some(ground) => write_audit_if(alloc, audit, &ground.state, ground.dcs.as_slice(), lines),
-        None => Ok(true),
+        Some(ground) if audit => {
+            lines.push_str(partition_line(alloc, number)?.as_str())?;
+            write_audit_if(alloc, true, &ground.state, ground.dcs.as_slice(), lines)
+        }
+        _ => Ok(true),
     }
 }
 
@@ -180,7 +205,7 @@ fn are_both(one: bool, other: bool) -> bool
     one && other
 }
 
-/// Adds the line of an audit of each partition with calls, where that is wanted, and answers whether nothing is wrong.
+/// Adds what an audit finds of each partition with calls, where that is wanted, and answers whether nothing is wrong.
 pub fn write_audits(
     alloc: Global,
     audit: bool,
@@ -190,8 +215,8 @@ pub fn write_audits(
     ensures { IfOk result (AddsAudits audit grounds.now (string_bytes lines.old) (string_bytes lines.new)) }
 {
     let mut sound = true;
-    for ground in grounds {
-        let found = write_audit_of(alloc, audit, ground, lines)?;
+    for (number, ground) in grounds.iter().enumerate() {
+        let found = write_audit_of(alloc, audit, number, ground, lines)?;
         sound = are_both(sound, found);
     }
     Ok(sound)
@@ -239,11 +264,4 @@ pub fn check_names<F: Files<File = File>>(
         check_name(rt, alloc, log, number, ground)?;
     }
     Ok(())
-}
-
-/// The exit status.
-pub fn status_of(sound: bool) -> u8
-    ensures { result ≡ (if sound then 0 else 1) }
-{
-    u8::from(!sound)
 }

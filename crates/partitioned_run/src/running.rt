@@ -1,12 +1,14 @@
 //! `run --partitions`: the calls of a script by workers, those of each partition apart.
 
-ghost use Rattle.std.specs.Prelude.{◌≡◌, length, max, IfOk, IfSome, None, false, is_some, option_map, string_bytes};
+ghost use Rattle.std.specs.Prelude.{◌≡◌, [], length, max, IfOk, IfSome, None, false, is_some, option_map, string_bytes};
 ghost use Rattle.scripts.specs.Reading.{contents_of};
 ghost use Rattle.scripts.specs.declared.keyword.Command.TheVariants as command;
 ghost use Rattle.script_loading.specs.Loading.{beginning_of, first_unverified, begun, empty_stores};
 ghost use Rattle.worker_pool.specs.Faults.{InRange};
 ghost use Rattle.run_calls.specs.Stops.{Stops};
 ghost use Rattle.partitioned_run.specs.Logged.{AreStarts, IsContentsRun, IsPartitionedRun};
+ghost use Rattle.partitioned_run.specs.Partitioned.{kept_dcs};
+ghost use Rattle.run_calls.specs.Figures.{AreNotes};
 ghost use Rattle.partitioned_run.specs.Joining.Dividing.{AreDivided, IsDivided};
 ghost use Rattle.partitioned_run.specs.Joining.Reporting.{HaveRun, IsRunSo, MayBeRun};
 
@@ -17,13 +19,14 @@ use crate::grounds::{Start, Task};
 pub use crate::recovering::file_of;
 use crate::recovering::{front_lines, starts_of};
 use crate::reporting::{
-    Outcomes, answered_lines, check_names, lack_memory, outcomes_of, status_of, write_audits,
+    Outcomes, answered_lines, check_names, full_kept, lack_memory, outcomes_of, write_audits,
     write_kept,
 };
 use data_component::dc::Dc;
 use partitions::merged;
 use report_texts::output::Output;
-use run_calls::answering::Manner;
+use run_calls::answering::{Manner, run_status};
+use run_calls::figures::notes_of;
 use run_calls::stop::{of_manner, stopped};
 use run_calls::watching::{Listeners, Waits};
 use run_ground::stop::Stop;
@@ -48,8 +51,9 @@ fn reported(
     requires divided { AreDivided (contents_of task.script.now) task.division.now }
     requires empty { empty.now ≡ empty_stores (contents_of task.script.now) }
     requires run { HaveRun (is_some task.log) (contents_of task.script.now) task.division.now (string_bytes front) all.now }
-    ensures { IfOk result (λ r. IsRunSo (is_some task.entry.log) (contents_of task.entry.script.now) task.entry.manner.audit
+    ensures so { IfOk result (λ r. IsRunSo (is_some task.entry.log) (contents_of task.entry.script.now) task.entry.manner.audit task.entry.manner.strict
         r.status (string_bytes r.lines)) }
+    ensures full { IfOk result (λ r. AreNotes [] (kept_dcs task.entry.division.now.partitions all.now.grounds.items empty.now) r.notes) }
 {
     let division = task.division;
     let first = merged(alloc, division.first.as_slice(), all.first.as_slice())?;
@@ -61,10 +65,11 @@ fn reported(
     let grounds = all.grounds.as_slice();
     write_kept(alloc, &division.partitions, grounds, empty, &mut lines)?;
     let sound = write_audits(alloc, task.manner.audit, grounds, &mut lines)?;
+    let full = full_kept(alloc, &division.partitions, grounds, empty)?;
     Ok(Output {
-        status: status_of(sound),
+        status: run_status(task.manner.strict, calls.as_slice(), sound),
         lines,
-        notes: None,
+        notes: notes_of(alloc, full, &[])?,
     })
 }
 
@@ -78,7 +83,7 @@ fn reported_if_named<F: Files<File = File>>(
 ) -> Result<Output, Fault>
     requires divided { AreDivided (contents_of task.script.now) task.division.now }
     requires run { HaveRun (is_some task.log) (contents_of task.script.now) task.division.now (string_bytes front) all.now }
-    ensures { IfOk result (λ r. IsRunSo (is_some task.entry.log) (contents_of task.entry.script.now) task.entry.manner.audit
+    ensures { IfOk result (λ r. IsRunSo (is_some task.entry.log) (contents_of task.entry.script.now) task.entry.manner.audit task.entry.manner.strict
         r.status (string_bytes r.lines)) }
 {
     if let Some(log) = task.log {
@@ -100,7 +105,7 @@ fn run_started<R: Files<File = File> + Clock + Threads + Wait + Sync>(
     requires starts { AreStarts (is_some task.log) (begun (contents_of task.script.now)) (empty_stores (contents_of task.script.now))
         task.division.now.partitions starts.items }
     ensures { InRange task.entry.manner.workers task.entry.manner.tries → IfOk result (λ r. IsContentsRun (is_some task.entry.log)
-        (contents_of task.entry.script.now) task.entry.manner.workers task.entry.manner.tries task.entry.manner.audit
+        (contents_of task.entry.script.now) task.entry.manner.workers task.entry.manner.tries task.entry.manner.audit task.entry.manner.strict
         r.status (string_bytes r.lines)) }
 {
     let front = match front_lines(alloc, starts.as_slice()) {
@@ -138,7 +143,7 @@ fn run_divided<R: Files<File = File> + Clock + Threads + Wait + Sync>(
 ) -> Result<Output, Fault>
     requires { IsDivided (option_map (λ file. file.now) task.object) task.script.now task.division.now }
     ensures { InRange task.entry.manner.workers task.entry.manner.tries → IfOk result (λ r. IsContentsRun (is_some task.entry.log)
-        (contents_of task.entry.script.now) task.entry.manner.workers task.entry.manner.tries task.entry.manner.audit
+        (contents_of task.entry.script.now) task.entry.manner.workers task.entry.manner.tries task.entry.manner.audit task.entry.manner.strict
         r.status (string_bytes r.lines)) }
 {
     match starts_of(rt, alloc, task, count_of(task.script.dcs.len()))? {
@@ -162,7 +167,7 @@ fn run_accepted<R: Files<File = File> + Clock + Threads + Wait + Sync>(
     requires state { accepted.state ≡ begun (contents_of accepted.script) }
     ensures { InRange manner.workers manner.tries
         → IfOk result (λ r. IsContentsRun (is_some log.entry) (contents_of accepted.entry.script)
-        manner.workers manner.tries manner.audit r.status (string_bytes r.lines)) }
+        manner.workers manner.tries manner.audit manner.strict r.status (string_bytes r.lines)) }
 {
     let Accepted { script, state } = accepted;
     let script = &script;
@@ -197,7 +202,7 @@ fn run_fit<R: Files<File = File> + Clock + Threads + Wait + Sync>(
     requires verified { first_unverified (option_map (λ file. file.now) object) accepted.script.procedures.items ≡ None }
     requires state { accepted.state ≡ begun (contents_of accepted.script) }
     ensures { IfOk result (λ r. IsContentsRun (is_some log.entry) (contents_of accepted.entry.script)
-        manner.workers manner.tries manner.audit r.status (string_bytes r.lines)) }
+        manner.workers manner.tries manner.audit manner.strict r.status (string_bytes r.lines)) }
 {
     match of_manner(manner) {
         Some(stop) => {
@@ -230,7 +235,7 @@ pub fn running_partitioned<R: Files<File = File> + Clock + Threads + Wait + Sync
     manner: Manner,
     listeners: Listeners,
 ) -> Result<Output, Fault>
-    ensures { IfOk result (λ r. IsPartitionedRun (is_some log.entry) manner.workers manner.tries manner.audit (beginning_of command.Run source.entry)
+    ensures { IfOk result (λ r. IsPartitionedRun (is_some log.entry) manner.workers manner.tries manner.audit manner.strict (beginning_of command.Run source.entry)
         r.status (string_bytes r.lines)) }
 {
     let acceptance = accept(alloc, source)?;

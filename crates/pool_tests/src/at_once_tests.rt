@@ -1,4 +1,4 @@
-// Links that perform at once, and gates that are silent where a call is begun and that aren't.
+// Links that perform at once, and gates that only note where a call is begun and that don't.
 
 use crate::pool_tests::Counts;
 use crate::test_pool::{
@@ -117,7 +117,7 @@ fn each_wire_at_once(rt: HostRuntime) {
 
 // A gate is told of each call that begins before anything is sent for it, and nothing is performed at once.
 #[test]
-fn a_gate_that_is_not_silent(rt: HostRuntime) {
+fn a_gate_that_does_more_than_note(rt: HostRuntime) {
     let gate = Counts::new();
     check(&rt, rt.alloc(), Manner::Each, &gate, (0, 6));
     is_same(&rt, gate.told(), (4, 4));

@@ -111,10 +111,11 @@ impl Gate for Board {
     }
 }
 
-// Tells the board of answers, and never keeps a worker for long.
+// Tells the board of answers, and never keeps a worker for long. It counts calls that are told in the order of the list.
 #[derive(Drop)]
 struct PromptGate<'a> {
     board: &'a Board,
+    in_order: AtomicU64,
 }
 
 impl Gate for PromptGate<'_> {
@@ -122,9 +123,13 @@ impl Gate for PromptGate<'_> {
 
     fn answered<J: RunSpec>(&self, acknowledgement: &Acknowledgement<J>) {
         Gate::answered(self.board, acknowledgement);
+        let next = self.in_order.load(Ordering::SeqCst);
+        if acknowledgement.call() as u64 == next {
+            self.in_order.store(next.wrapping_add(1), Ordering::SeqCst);
+        }
     }
 
-    fn is_silent(&self) -> bool {
+    fn only_notes(&self) -> bool {
         true
     }
 
@@ -309,13 +314,17 @@ fn one_keep_for_several_answers(rt: HostRuntime) {
     drop(board);
 }
 
-// Calls that end under one taking of the lock are kept by one keep, also of one worker alone; the other is the last.
+// Calls that end under one taking of the lock are kept by one keep, also of one worker alone; the other is the last. They
+// are told in the order of the log.
 #[test]
 fn one_keep_for_the_calls_of_a_taking(rt: HostRuntime) {
     let alloc = rt.alloc();
     let calls = new_puts(&rt, alloc);
     let board = new_board(&rt, alloc, 8, 0);
-    let gate = PromptGate { board: &board };
+    let gate = PromptGate {
+        board: &board,
+        in_order: AtomicU64::new(0),
+    };
     let link = locked_dc(alloc, 8).expect(&rt, "no components");
     let journal = Watched {
         memory: MemoryJournal::new(alloc),
@@ -340,6 +349,7 @@ fn one_keep_for_the_calls_of_a_taking(rt: HostRuntime) {
     drop(journal);
     is_same(&rt, ending(ran), ("a report", 32));
     is_same(&rt, board.answered(), 8);
+    is_same(&rt, gate.in_order.load(Ordering::SeqCst), 8);
     is_same(&rt, board.keeps.load(Ordering::SeqCst), 2);
     drop(board);
 }

@@ -59,7 +59,31 @@ impl Gate for Path {
     }
 }
 
-// The stages of `put 5 1` over a link.
+// The same, told under the lock.
+#[derive(Drop)]
+struct NotedPath {
+    path: Path,
+}
+
+impl Gate for NotedPath {
+    fn begun(&self, call: usize) {
+        self.path.begun(call);
+    }
+
+    fn reaches(&self, call: usize, stage: Stage) {
+        self.path.reaches(call, stage);
+    }
+
+    fn answered<J: RunSpec>(&self, acknowledgement: &Acknowledgement<J>) {
+        Gate::answered(&self.path, acknowledgement);
+    }
+
+    fn only_notes(&self) -> bool {
+        true
+    }
+}
+
+// What such a gate is told of `put 5 1` over a link.
 fn stages_of_put<R: Threads + Wait + Sync + Abort, L: Link + Sync>(
     rt: &R,
     alloc: Global,
@@ -71,18 +95,40 @@ fn stages_of_put<R: Threads + Wait + Sync + Abort, L: Link + Sync>(
     path.stages.load(Ordering::SeqCst)
 }
 
+// The same of a gate that only notes.
+fn noted_stages_of_put<R: Threads + Wait + Sync + Abort, L: Link + Sync>(
+    rt: &R,
+    alloc: Global,
+    link: &L,
+) -> u64 {
+    let noted = NotedPath { path: Path::new() };
+    let calls = calls_of(rt, alloc, &[(PUT, &[5, 1])]);
+    drop(first_answers(rt, alloc, calls, 2, link, &noted));
+    noted.path.stages.load(Ordering::SeqCst)
+}
+
+// By a wire that is carried, and by one that is performed at once.
 #[test]
 fn a_call_that_is_answered(rt: HostRuntime) {
     let link = locked_dc(rt.alloc(), 4).expect(&rt, "no link");
     is_same(&rt, stages_of_put(&rt, rt.alloc(), &link), 12_456);
     drop(link);
+    let link = locked_dc(rt.alloc(), 4).expect(&rt, "no link");
+    is_same(&rt, noted_stages_of_put(&rt, rt.alloc(), &link), 12_456);
+    drop(link);
 }
 
-// Each request is sent three times.
+// Each request is sent three times. A link that performs nothing at once is asked that first.
 #[test]
 fn a_call_whose_wires_are_lost(rt: HostRuntime) {
     let link = Loses::new();
     is_same(&rt, stages_of_put(&rt, rt.alloc(), &link), 124_343_456);
+    let link = Loses::new();
+    is_same(
+        &rt,
+        noted_stages_of_put(&rt, rt.alloc(), &link),
+        12_424_343_456,
+    );
 }
 
 // A procedure without access slots asks nothing, and the gate is told that its call began.

@@ -66,7 +66,7 @@ impl Gate for Slow {
 
     fn answered<J: RunSpec>(&self, _acknowledgement: &Acknowledgement<J>) {}
 
-    fn is_silent(&self) -> bool {
+    fn only_notes(&self) -> bool {
         true
     }
 }

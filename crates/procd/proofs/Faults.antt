@@ -59,9 +59,9 @@ read_fails Asm path err is told = absurd is
 read_fails (Dis raw) path err is told = absurd is
 read_fails Verify path err is told = absurd is
 read_fails (World log audit script) path err is told = script_fails script path err is told
-read_fails (Run workers tries stats audit results tell metrics trace log checkpoint over script) path err is told =
+read_fails (Run workers tries stats audit strict results tell metrics trace log checkpoint over script) path err is told =
     elim is [ inl keeps ↦ inl (log_fails log path err keeps (inl told)) | inr beside ↦ inr (script_fails script path err beside told) ]
-read_fails (Partitioned workers tries audit log script) path err is told = inr (script_fails script path err is told)
+read_fails (Partitioned workers tries audit strict log script) path err is told = inr (script_fails script path err is told)
 read_fails (Log (Events part)) path err is told = absurd is
 read_fails (Log EventsAndRows) path err is told = absurd is
 read_fails (Log (Follow part)) path err is told = absurd is
@@ -78,8 +78,8 @@ write_fails Asm path err is told = absurd is
 write_fails (Dis raw) path err is told = absurd is
 write_fails Verify path err is told = absurd is
 write_fails (World log audit script) path err is told = absurd is
-write_fails (Run workers tries stats audit results tell metrics trace log checkpoint over script) path err is told = inl (log_fails log path err is (inr told))
-write_fails (Partitioned workers tries audit log script) path err is told = absurd is
+write_fails (Run workers tries stats audit strict results tell metrics trace log checkpoint over script) path err is told = inl (log_fails log path err is (inr told))
+write_fails (Partitioned workers tries audit strict log script) path err is told = absurd is
 write_fails (Log (Events part)) path err is told = absurd is
 write_fails (Log EventsAndRows) path err is told = absurd is
 write_fails (Log (Follow part)) path err is told = absurd is
@@ -103,8 +103,8 @@ keep_fails Asm log err is told = absurd is
 keep_fails (Dis raw) log err is told = absurd is
 keep_fails Verify log err is told = absurd is
 keep_fails (World l audit script) log err is told = absurd is
-keep_fails (Run workers tries stats audit results tell metrics trace l checkpoint over script) log err is told = absurd is
-keep_fails (Partitioned workers tries audit l script) log err is told = inl (subst (λ (o : Option (List ℕ)). PartFails o err) (sym is) told)
+keep_fails (Run workers tries stats audit strict results tell metrics trace l checkpoint over script) log err is told = absurd is
+keep_fails (Partitioned workers tries audit strict l script) log err is told = inl (subst (λ (o : Option (List ℕ)). PartFails o err) (sym is) told)
 keep_fails (Log wanted) log err is told = absurd is
 
 module _ (file : List ℕ) (wish : Wish) (text : List ℕ) (out err : Stream) (status : ℕ) where

@@ -11,22 +11,22 @@ use Rattle.world_command.specs.declared.world.Behind.{Behind}
 use Rattle.procd.specs.Report.{IsRunReport, IsRunOf, IsPartitionedOf, IsWorldOf}
 use Rattle.procd.specs.Joining.Further.{IsSourceOf}
 
-pub run_of_source : (checkpoints : Checkpoints) (workers tries : ℕ) (audit results : Bool) (log script : Option (List ℕ)) (file : List ℕ) (source : Source)
+pub run_of_source : (checkpoints : Checkpoints) (workers tries : ℕ) (audit strict results : Bool) (log script : Option (List ℕ)) (file : List ℕ) (source : Source)
     (status : ℕ) (lines : List ℕ) → IsSourceOf script file source
-    → IsRunReport checkpoints workers tries audit results log (beginning_of command.Run source) status lines
-    → IsRunOf checkpoints workers tries audit results log script file status lines
-run_of_source checkpoints workers tries audit results log None file source status lines is run = rw (is.0, is.1) at run
-run_of_source checkpoints workers tries audit results log (Some path) file source status lines is run = (source.text.now, rw is at run)
+    → IsRunReport checkpoints workers tries audit strict results log (beginning_of command.Run source) status lines
+    → IsRunOf checkpoints workers tries audit strict results log script file status lines
+run_of_source checkpoints workers tries audit strict results log None file source status lines is run = rw (is.0, is.1) at run
+run_of_source checkpoints workers tries audit strict results log (Some path) file source status lines is run = (source.text.now, rw is at run)
 
 pub as_there : {X Y : Type 0} (f : X → Y) (o : Option X) → is_some o ≡ is_some (option_map f o)
 as_there f None = refl
 as_there f (Some x) = refl
 
-pub partitioned_of_source : (keeps : Bool) (workers tries : ℕ) (audit : Bool) (script : Option (List ℕ)) (file : List ℕ) (source : Source) (status : ℕ) (lines : List ℕ)
-    → IsSourceOf script file source → IsPartitionedRun keeps workers tries audit (beginning_of command.Run source) status lines
-    → IsPartitionedOf keeps workers tries audit script file status lines
-partitioned_of_source keeps workers tries audit None file source status lines is run = rw (is.0, is.1) at run
-partitioned_of_source keeps workers tries audit (Some path) file source status lines is run = (source.text.now, rw is at run)
+pub partitioned_of_source : (keeps : Bool) (workers tries : ℕ) (audit strict : Bool) (script : Option (List ℕ)) (file : List ℕ) (source : Source) (status : ℕ) (lines : List ℕ)
+    → IsSourceOf script file source → IsPartitionedRun keeps workers tries audit strict (beginning_of command.Run source) status lines
+    → IsPartitionedOf keeps workers tries audit strict script file status lines
+partitioned_of_source keeps workers tries audit strict None file source status lines is run = rw (is.0, is.1) at run
+partitioned_of_source keeps workers tries audit strict (Some path) file source status lines is run = (source.text.now, rw is at run)
 
 pub world_of_source : (behind : Behind) (script : Option (List ℕ)) (file : List ℕ) (source : Source) (status : ℕ) (lines : List ℕ)
     → IsSourceOf script file source → IsWorld behind (beginning_of command.World source) status lines → IsWorldOf behind script file status lines

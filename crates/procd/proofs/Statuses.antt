@@ -22,6 +22,8 @@ use Rattle.log_command.specs.LogReport.{IsBeside, NotRead, Anothers, Own, IsAudi
 use Rattle.log_command.specs.PictureReport.{IsPicturing, Drawn, NotDrawn}
 use Rattle.run_ground.specs.declared.ground.Checkpoints.{Checkpoints}
 use Rattle.run_log.specs.declared.anew.Renewal.{Renewal}
+use Rattle.run_calls.specs.Answered.{is_failed, run_status}
+use Rattle.worker_pool.specs.declared.answer.Answer.{Answer as CallAnswer}
 use Rattle.run_ground.specs.Kept.{FileJournal}
 use Rattle.run_command.specs.Parts.{IsKeptSo}
 use Rattle.run_command.specs.Running.{IsRunBy, IsCallsRun, Ran, Stopped, never}
@@ -82,54 +84,59 @@ sound_low : (sound : Bool) → (if sound then 0 else 1) ≤ 1
 sound_low true = omega arith
 sound_low false = omega arith
 
-calls_low : (Kept : Core → Renewal → Type 0) (checkpoints : Checkpoints) (start : Core) (dcs : List Store)
-    (first calls : List Call) (workers tries : ℕ) (audit results : Bool) (status : ℕ) (lines : List ℕ)
-    → IsCallsRun Kept checkpoints start dcs first calls workers tries audit results status lines → status ≤ 1
-calls_low Kept checkpoints start dcs first calls workers tries audit results status lines (Ran fit run) =
-    let is = run.printed.status_is in
-    omega (arith, is, sound_low run.printed.sound)
-calls_low Kept checkpoints start dcs first calls workers tries audit results status lines (Stopped fault when is line) = omega (arith, is)
+told_low : (strict : Bool) (answers : List CallAnswer) (sound : Bool) (status : ℕ) → status ≡ run_status strict answers sound → status ≤ 1
+told_low strict answers sound status is =
+    omega (
+      arith,
+      is,
+      elim (strict && list_any is_failed answers) as (λ b. (if b then 1 else (if sound then 0 else 1)) ≤ 1)
+          [ true ↦ omega arith | false ↦ sound_low sound ],
+    )
 
-run_low : (refusal : Option (List ℕ)) (contents : Contents) (workers tries : ℕ) (audit results : Bool) (status : ℕ) (lines : List ℕ)
-    → IsRunBy refusal contents workers tries audit results status lines → status ≤ 1
-run_low (Some refusal) contents workers tries audit results status lines h = omega (arith, h.0)
-run_low None contents workers tries audit results status lines h =
-    calls_low (λ _ _. Unit {0}) never (begun contents) (empty_stores contents) contents.first contents.calls workers tries audit results status lines h
+calls_low : (Kept : Core → Renewal → Type 0) (checkpoints : Checkpoints) (start : Core) (dcs : List Store)
+    (first calls : List Call) (workers tries : ℕ) (audit strict results : Bool) (status : ℕ) (lines : List ℕ)
+    → IsCallsRun Kept checkpoints start dcs first calls workers tries audit strict results status lines → status ≤ 1
+calls_low Kept checkpoints start dcs first calls workers tries audit strict results status lines (Ran fit run) =
+    told_low strict run.other_answers run.printed.sound status run.printed.status_is
+calls_low Kept checkpoints start dcs first calls workers tries audit strict results status lines (Stopped fault when is line) = omega (arith, is)
+
+run_low : (refusal : Option (List ℕ)) (contents : Contents) (workers tries : ℕ) (audit strict results : Bool) (status : ℕ) (lines : List ℕ)
+    → IsRunBy refusal contents workers tries audit strict results status lines → status ≤ 1
+run_low (Some refusal) contents workers tries audit strict results status lines h = omega (arith, h.0)
+run_low None contents workers tries audit strict results status lines h =
+    calls_low (λ _ _. Unit {0}) never (begun contents) (empty_stores contents) contents.first contents.calls workers tries audit strict results status lines h
 
 behind_low : (journal : Option FileJournal) (checkpoints : Checkpoints) (start : Core) (empties : List Store)
-    (first calls : List Call) (workers tries : ℕ) (audit results : Bool)
-    (status : ℕ) (lines : List ℕ) → IsLoggedRun journal checkpoints start empties first calls workers tries audit results status lines → status ≤ 1
-behind_low journal checkpoints start empties first calls workers tries audit results status lines (Unopened fault when is line) = omega (arith, is)
-behind_low journal checkpoints start empties first calls workers tries audit results status lines (Refused why is) = omega (arith, is)
-behind_low journal checkpoints start empties first calls workers tries audit results status lines (GoneOn b) =
-    calls_low (IsKeptSo journal checkpoints) checkpoints b.on.anew b.on.anew_dcs first calls workers tries audit results status b.on.answers b.on.ran
+    (first calls : List Call) (workers tries : ℕ) (audit strict results : Bool)
+    (status : ℕ) (lines : List ℕ) → IsLoggedRun journal checkpoints start empties first calls workers tries audit strict results status lines → status ≤ 1
+behind_low journal checkpoints start empties first calls workers tries audit strict results status lines (Unopened fault when is line) = omega (arith, is)
+behind_low journal checkpoints start empties first calls workers tries audit strict results status lines (Refused why is) = omega (arith, is)
+behind_low journal checkpoints start empties first calls workers tries audit strict results status lines (GoneOn b) =
+    calls_low (IsKeptSo journal checkpoints) checkpoints b.on.anew b.on.anew_dcs first calls workers tries audit strict results status b.on.answers b.on.ran
 
 logged_low : (journal : Option FileJournal) (checkpoints : Checkpoints) (refusal : Option (List ℕ))
-    (contents : Contents) (workers tries : ℕ) (audit results : Bool)
-    (status : ℕ) (lines : List ℕ) → IsLoggedBy journal checkpoints refusal contents workers tries audit results status lines → status ≤ 1
-logged_low journal checkpoints (Some refusal) contents workers tries audit results status lines h = omega (arith, h.0)
-logged_low journal checkpoints None contents workers tries audit results status lines h =
-    behind_low journal checkpoints (begun contents) (empty_stores contents) contents.first contents.calls workers tries audit results status lines h
+    (contents : Contents) (workers tries : ℕ) (audit strict results : Bool)
+    (status : ℕ) (lines : List ℕ) → IsLoggedBy journal checkpoints refusal contents workers tries audit strict results status lines → status ≤ 1
+logged_low journal checkpoints (Some refusal) contents workers tries audit strict results status lines h = omega (arith, h.0)
+logged_low journal checkpoints None contents workers tries audit strict results status lines h =
+    behind_low journal checkpoints (begun contents) (empty_stores contents) contents.first contents.calls workers tries audit strict results status lines h
 
 apart_low : (Told : Type 0) (workers tries status : ℕ) (lines : List ℕ) → (Told → status ≤ 1) → IsCallsRunApart Told workers tries status lines → status ≤ 1
 apart_low Told workers tries status lines low (RanApart fit run) = low run
 apart_low Told workers tries status lines low (StoppedApart fault when is line) = omega (arith, is)
 
-told_low : (sound : Bool) (status : ℕ) → status ≡ (if sound then 0 else 1) → status ≤ 1
-told_low sound status is = omega (arith, is, sound_low sound)
+apart_behind_low : (contents : Contents) (workers tries : ℕ) (audit strict : Bool) (status : ℕ) (lines : List ℕ)
+    → IsApartBehind contents workers tries audit strict status lines → status ≤ 1
+apart_behind_low contents workers tries audit strict status lines (RefusedApart numbers partitions p refusal why is line) = omega (arith, is)
+apart_behind_low contents workers tries audit strict status lines (BehindApart h) =
+    apart_low (AreRunBehind contents audit strict status lines) workers tries status lines (λ all. told_low strict all.run.other_answers all.run.sound status all.run.status_is) h
 
-apart_behind_low : (contents : Contents) (workers tries : ℕ) (audit : Bool) (status : ℕ) (lines : List ℕ)
-    → IsApartBehind contents workers tries audit status lines → status ≤ 1
-apart_behind_low contents workers tries audit status lines (RefusedApart numbers partitions p refusal why is line) = omega (arith, is)
-apart_behind_low contents workers tries audit status lines (BehindApart h) =
-    apart_low (AreRunBehind contents audit status lines) workers tries status lines (λ all. told_low all.run.sound status all.run.status_is) h
-
-partitioned_low : (keeps : Bool) (refusal : Option (List ℕ)) (contents : Contents) (workers tries : ℕ) (audit : Bool) (status : ℕ) (lines : List ℕ)
-    → IsPartitionedBy keeps refusal contents workers tries audit status lines → status ≤ 1
-partitioned_low keeps (Some refusal) contents workers tries audit status lines h = omega (arith, h.0)
-partitioned_low false None contents workers tries audit status lines h =
-    apart_low (IsRunApart contents audit status lines) workers tries status lines (λ all. told_low all.sound status all.status_is) h
-partitioned_low true None contents workers tries audit status lines h = apart_behind_low contents workers tries audit status lines h
+partitioned_low : (keeps : Bool) (refusal : Option (List ℕ)) (contents : Contents) (workers tries : ℕ) (audit strict : Bool) (status : ℕ) (lines : List ℕ)
+    → IsPartitionedBy keeps refusal contents workers tries audit strict status lines → status ≤ 1
+partitioned_low keeps (Some refusal) contents workers tries audit strict status lines h = omega (arith, h.0)
+partitioned_low false None contents workers tries audit strict status lines h =
+    apart_low (IsRunApart contents audit strict status lines) workers tries status lines (λ all. told_low strict all.other_answers all.sound status all.status_is) h
+partitioned_low true None contents workers tries audit strict status lines h = apart_behind_low contents workers tries audit strict status lines h
 
 steps_low : (all : Bool) → status_of_steps all ≤ 1
 steps_low true = omega arith
@@ -183,25 +190,25 @@ world_of_low behind None text status lines h =
 world_of_low behind (Some path) file status lines h =
     let b = beginning command.World (Some file) h.0 in world_low b.refusal b.contents behind status lines h.1
 
-run_report_low : (checkpoints : Checkpoints) (workers tries : ℕ) (audit results : Bool) (log : Option (List ℕ)) (b : Beginning) (status : ℕ) (lines : List ℕ)
-    → IsRunReport checkpoints workers tries audit results log b status lines → status ≤ 1
-run_report_low checkpoints workers tries audit results None b status lines h = run_low b.refusal b.contents workers tries audit results status lines h
-run_report_low checkpoints workers tries audit results (Some path) b status lines h = logged_low h.0 checkpoints
-    b.refusal b.contents workers tries audit results status lines h.1
+run_report_low : (checkpoints : Checkpoints) (workers tries : ℕ) (audit strict results : Bool) (log : Option (List ℕ)) (b : Beginning) (status : ℕ) (lines : List ℕ)
+    → IsRunReport checkpoints workers tries audit strict results log b status lines → status ≤ 1
+run_report_low checkpoints workers tries audit strict results None b status lines h = run_low b.refusal b.contents workers tries audit strict results status lines h
+run_report_low checkpoints workers tries audit strict results (Some path) b status lines h = logged_low h.0 checkpoints
+    b.refusal b.contents workers tries audit strict results status lines h.1
 
-run_of_low : (checkpoints : Checkpoints) (workers tries : ℕ) (audit results : Bool) (log script : Option (List ℕ)) (file : List ℕ) (status : ℕ) (lines : List ℕ)
-    → IsRunOf checkpoints workers tries audit results log script file status lines → status ≤ 1
-run_of_low checkpoints workers tries audit results log None text status lines h = run_report_low checkpoints workers
-    tries audit results log (beginning command.Run None text) status lines h
-run_of_low checkpoints workers tries audit results log (Some path) file status lines h =
-    run_report_low checkpoints workers tries audit results log (beginning command.Run (Some file) h.0) status lines h.1
+run_of_low : (checkpoints : Checkpoints) (workers tries : ℕ) (audit strict results : Bool) (log script : Option (List ℕ)) (file : List ℕ) (status : ℕ) (lines : List ℕ)
+    → IsRunOf checkpoints workers tries audit strict results log script file status lines → status ≤ 1
+run_of_low checkpoints workers tries audit strict results log None text status lines h = run_report_low checkpoints workers
+    tries audit strict results log (beginning command.Run None text) status lines h
+run_of_low checkpoints workers tries audit strict results log (Some path) file status lines h =
+    run_report_low checkpoints workers tries audit strict results log (beginning command.Run (Some file) h.0) status lines h.1
 
-partitioned_of_low : (keeps : Bool) (workers tries : ℕ) (audit : Bool) (script : Option (List ℕ)) (file : List ℕ) (status : ℕ) (lines : List ℕ)
-    → IsPartitionedOf keeps workers tries audit script file status lines → status ≤ 1
-partitioned_of_low keeps workers tries audit None text status lines h =
-    let b = beginning command.Run None text in partitioned_low keeps b.refusal b.contents workers tries audit status lines h
-partitioned_of_low keeps workers tries audit (Some path) file status lines h =
-    let b = beginning command.Run (Some file) h.0 in partitioned_low keeps b.refusal b.contents workers tries audit status lines h.1
+partitioned_of_low : (keeps : Bool) (workers tries : ℕ) (audit strict : Bool) (script : Option (List ℕ)) (file : List ℕ) (status : ℕ) (lines : List ℕ)
+    → IsPartitionedOf keeps workers tries audit strict script file status lines → status ≤ 1
+partitioned_of_low keeps workers tries audit strict None text status lines h =
+    let b = beginning command.Run None text in partitioned_low keeps b.refusal b.contents workers tries audit strict status lines h
+partitioned_of_low keeps workers tries audit strict (Some path) file status lines h =
+    let b = beginning command.Run (Some file) h.0 in partitioned_low keeps b.refusal b.contents workers tries audit strict status lines h.1
 
 beside_audit_low : (object : Option (List ℕ)) (file : List ℕ) (status : ℕ) (lines : List ℕ) → IsAuditBeside object file status lines → status ≤ 1
 beside_audit_low object file status lines h =
@@ -213,9 +220,9 @@ report_low Asm text status lines h = assembly_low (assembled text) status lines 
 report_low (Dis raw) text status lines h = disassembly_low raw text status lines h
 report_low Verify file status lines h = verification_low (is_elf file) file status lines h
 report_low (World log audit script) file status lines h = world_of_low (record { audit = audit; log = log }) script file status lines h
-report_low (Run workers tries stats audit results tell metrics trace log checkpoint over script) file status lines h =
-    run_of_low (record { at_end = checkpoint; over = over }) workers tries audit results log script file status lines h
-report_low (Partitioned workers tries audit log script) file status lines h = partitioned_of_low (is_some log) workers tries audit script file status lines h
+report_low (Run workers tries stats audit strict results tell metrics trace log checkpoint over script) file status lines h =
+    run_of_low (record { at_end = checkpoint; over = over }) workers tries audit strict results log script file status lines h
+report_low (Partitioned workers tries audit strict log script) file status lines h = partitioned_of_low (is_some log) workers tries audit strict script file status lines h
 report_low (Log (Events part)) text status lines h = listing_low part false text status lines h
 report_low (Log EventsAndRows) text status lines h = listing_low Whole true text status lines h
 report_low (Log (Picture path part)) text status lines h = picturing_low part text h.0 status lines h.1

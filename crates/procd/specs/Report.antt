@@ -21,26 +21,26 @@ use Rattle.log_command.specs.LogReport.{IsListing, IsAudit}
 use Rattle.log_command.specs.PictureReport.{IsPicturing}
 
 -- a run whose log is kept, by some journal
-abbrev pub IsKeptRun : Checkpoints → ℕ → ℕ → Bool → Bool → Beginning → ℕ → List ℕ → Type 0
-IsKeptRun checkpoints workers tries audit results b status lines =
-    (journal : Option FileJournal) × IsLogged journal checkpoints workers tries audit results b status lines
+abbrev pub IsKeptRun : Checkpoints → ℕ → ℕ → Bool → Bool → Bool → Beginning → ℕ → List ℕ → Type 0
+IsKeptRun checkpoints workers tries audit strict results b status lines =
+    (journal : Option FileJournal) × IsLogged journal checkpoints workers tries audit strict results b status lines
 
-abbrev pub IsRunReport : Checkpoints → ℕ → ℕ → Bool → Bool → (log : Option (List ℕ)) → Beginning → ℕ → List ℕ → Type 0
-IsRunReport checkpoints workers tries audit results None b status lines = IsRun workers tries audit results b status lines
-IsRunReport checkpoints workers tries audit results (Some path) b status lines = IsKeptRun checkpoints workers tries audit results b status lines
+abbrev pub IsRunReport : Checkpoints → ℕ → ℕ → Bool → Bool → Bool → (log : Option (List ℕ)) → Beginning → ℕ → List ℕ → Type 0
+IsRunReport checkpoints workers tries audit strict results None b status lines = IsRun workers tries audit strict results b status lines
+IsRunReport checkpoints workers tries audit strict results (Some path) b status lines = IsKeptRun checkpoints workers tries audit strict results b status lines
 
 -- of a script; or of an object file, with what the script's file has
-abbrev pub IsRunOf : Checkpoints → ℕ → ℕ → Bool → Bool → (log script : Option (List ℕ)) → List ℕ → ℕ → List ℕ → Type 0
-IsRunOf checkpoints workers tries audit results log None text status lines =
-    IsRunReport checkpoints workers tries audit results log (beginning command.Run None text) status lines
-IsRunOf checkpoints workers tries audit results log (Some path) file status lines =
-    (text : List ℕ) × IsRunReport checkpoints workers tries audit results log (beginning command.Run (Some file) text) status lines
+abbrev pub IsRunOf : Checkpoints → ℕ → ℕ → Bool → Bool → Bool → (log script : Option (List ℕ)) → List ℕ → ℕ → List ℕ → Type 0
+IsRunOf checkpoints workers tries audit strict results log None text status lines =
+    IsRunReport checkpoints workers tries audit strict results log (beginning command.Run None text) status lines
+IsRunOf checkpoints workers tries audit strict results log (Some path) file status lines =
+    (text : List ℕ) × IsRunReport checkpoints workers tries audit strict results log (beginning command.Run (Some file) text) status lines
 
-abbrev pub IsPartitionedOf : (keeps : Bool) → ℕ → ℕ → Bool → (script : Option (List ℕ)) → List ℕ → ℕ → List ℕ → Type 0
-IsPartitionedOf keeps workers tries audit None text status lines =
-    IsPartitionedRun keeps workers tries audit (beginning command.Run None text) status lines
-IsPartitionedOf keeps workers tries audit (Some path) file status lines =
-    (text : List ℕ) × IsPartitionedRun keeps workers tries audit (beginning command.Run (Some file) text) status lines
+abbrev pub IsPartitionedOf : (keeps : Bool) → ℕ → ℕ → Bool → Bool → (script : Option (List ℕ)) → List ℕ → ℕ → List ℕ → Type 0
+IsPartitionedOf keeps workers tries audit strict None text status lines =
+    IsPartitionedRun keeps workers tries audit strict (beginning command.Run None text) status lines
+IsPartitionedOf keeps workers tries audit strict (Some path) file status lines =
+    (text : List ℕ) × IsPartitionedRun keeps workers tries audit strict (beginning command.Run (Some file) text) status lines
 
 abbrev pub IsWorldOf : Behind → (script : Option (List ℕ)) → List ℕ → ℕ → List ℕ → Type 0
 IsWorldOf behind None text status lines = IsWorld behind (beginning command.World None text) status lines
@@ -67,7 +67,7 @@ IsReport Asm text status lines = IsAssembly (assembled text) status lines
 IsReport (Dis raw) text status lines = IsDisassembly raw text status lines
 IsReport Verify file status lines = IsVerification (is_elf file) file status lines
 IsReport (World log audit script) file status lines = IsWorldOf (record { audit = audit; log = log }) script file status lines
-IsReport (Run workers tries stats audit results tell metrics trace log checkpoint over script) file status lines =
-    IsRunOf (record { at_end = checkpoint; over = over }) workers tries audit results log script file status lines
-IsReport (Partitioned workers tries audit log script) file status lines = IsPartitionedOf (is_some log) workers tries audit script file status lines
+IsReport (Run workers tries stats audit strict results tell metrics trace log checkpoint over script) file status lines =
+    IsRunOf (record { at_end = checkpoint; over = over }) workers tries audit strict results log script file status lines
+IsReport (Partitioned workers tries audit strict log script) file status lines = IsPartitionedOf (is_some log) workers tries audit strict script file status lines
 IsReport (Log wanted) file status lines = IsLogReport wanted file status lines

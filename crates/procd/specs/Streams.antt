@@ -6,7 +6,7 @@ use Rattle.log_part.specs.declared.part.Part.{Part}
 use Rattle.program_files.specs.Streams.{Stream, IsKept, Gets, Begins, TellsUnread, TellsUnwritten, TellsNotPrinted}
 use Rattle.program_files.specs.Following.{IsFollowed}
 use Rattle.procd.specs.Report.{IsReport}
-use Rattle.command_line.specs.Task.{Wish, World, Run, Partitioned, Log, Follow, Audit, Picture, wants_figures}
+use Rattle.command_line.specs.Task.{Wish, World, Run, Partitioned, Log, Follow, Audit, Picture, may_tell}
 
 -- the file can't be read
 abbrev pub IsReadFault : List ℕ → Stream → Stream → ℕ → Type 0
@@ -34,8 +34,8 @@ PartFails (Some log) err = (number : ℕ) × LogFails (Some (log ++ (codes "." +
 -- a further file can't be read or written
 abbrev pub FurtherFails : Wish → Stream → Type 0
 FurtherFails (World log audit script) err = ScriptFails script err
-FurtherFails (Run workers tries stats audit results tell metrics trace log checkpoint over script) err = LogFails log err ⊎ ScriptFails script err
-FurtherFails (Partitioned workers tries audit log script) err = PartFails log err ⊎ ScriptFails script err
+FurtherFails (Run workers tries stats audit strict results tell metrics trace log checkpoint over script) err = LogFails log err ⊎ ScriptFails script err
+FurtherFails (Partitioned workers tries audit strict log script) err = PartFails log err ⊎ ScriptFails script err
 FurtherFails (Log (Audit source script)) err = TellsUnread source err ⊎ ScriptFails script err
 FurtherFails (Log (Picture path part)) err = TellsUnwritten path err
 FurtherFails other err = ⊥
@@ -48,14 +48,14 @@ abbrev pub IsWriteFault : Wish → List ℕ → Stream → Stream → ℕ → Ty
 IsWriteFault wish text out err status =
     (meant : ℕ) × (lines : List ℕ) × IsReport wish text meant lines × (status ≡ 3) × Begins out lines × TellsNotPrinted err
 
--- where figures are asked for, they are told
+-- where there may be figures, or data components that are full, these are told
 abbrev pub TellsIf : Bool → Stream → Type 0
 TellsIf true err = (figures : List ℕ) × Begins err figures
 TellsIf false err = IsKept err
 
 -- the report's lines are written, and the status is its own
 abbrev pub IsDone : Wish → List ℕ → Stream → Stream → ℕ → Type 0
-IsDone wish text out err status = (lines : List ℕ) × IsReport wish text status lines × Gets out lines × TellsIf (wants_figures wish) err
+IsDone wish text out err status = (lines : List ℕ) × IsReport wish text status lines × Gets out lines × TellsIf (may_tell wish) err
 
 -- the file can't be read, memory ran out, a further file can't be read or written, standard output can't be written, or what was read is done
 abbrev pub Ends : List ℕ → Wish → List ℕ → Stream → Stream → ℕ → Type 0

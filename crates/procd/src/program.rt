@@ -161,11 +161,11 @@ fn cannot_keep<E: Write>(alloc: Global, err: &mut E, log: &str, number: usize, s
     }
 }
 
-// Tells the figures, where they are asked for and there are some.
-fn tell_notes<E: Write>(err: &mut E, wants_figures: bool, report: &Output)
-    ensures { TellsIf wants_figures (stream (E.contents err.old) (E.contents err.new)) }
+// Tells the figures and which data components are full, where there may be any.
+fn tell_notes<E: Write>(err: &mut E, may_tell: bool, report: &Output)
+    ensures { TellsIf may_tell (stream (E.contents err.old) (E.contents err.new)) }
 {
-    if let (true, Some(notes)) = (wants_figures, &report.notes) {
+    if let (true, Some(notes)) = (may_tell, &report.notes) {
         let _ = tell(err, notes.as_str());
     }
 }
@@ -209,7 +209,7 @@ fn tell_report<F: Files<File = File>, W: Write, E: Write>(
     if let Some(terminal) = streams.progress.terminal {
         explain(rt, alloc, terminal, wanted, text, report.status);
     }
-    tell_notes(&mut streams.err, wanted.task.wants_figures(), &report);
+    tell_notes(&mut streams.err, wanted.task.may_tell(), &report);
     let status = report.status;
     drop(report);
     status

@@ -152,7 +152,7 @@ fn logged<'a, R: Files<File = File> + Clock + Threads + Wait + Sync>(
     options: RunOptions,
 ) -> Result<Output, ReportFault<'a>>
     ensures ok { IfOk result (λ r. IsKeptRun options.entry.checkpoints options.entry.manner.workers options.entry.manner.tries
-        options.entry.manner.audit options.entry.manner.results (beginning_of command.Run source.entry) r.status
+        options.entry.manner.audit options.entry.manner.strict options.entry.manner.results (beginning_of command.Run source.entry) r.status
         (string_bytes r.lines)) }
     ensures fault { IfErr result (IsLogFault (Some path.entry.now)) }
     ensures text { IfErr result IsOfText }
@@ -177,7 +177,7 @@ fn run_of<'a, R: Files<File = File> + Clock + Threads + Wait + Sync>(
     log: Option<&'a str>,
 ) -> Result<Output, ReportFault<'a>>
     ensures ok { IfOk result (λ r. IsRunOf options.entry.checkpoints options.entry.manner.workers options.entry.manner.tries
-        options.entry.manner.audit options.entry.manner.results (option_map (λ path. path.now) log.entry)
+        options.entry.manner.audit options.entry.manner.strict options.entry.manner.results (option_map (λ path. path.now) log.entry)
         (option_map (λ path. path.now) script.entry) file.now r.status (string_bytes r.lines)) }
     ensures not_text { IfErr result (IsNoTextOf (is_none script.entry) file.now) }
     ensures further { IfErr result (IsRunFault (option_map (λ path. path.now) log.entry) (option_map (λ path. path.now) script.entry)) }
@@ -214,7 +214,7 @@ fn partitioned_of<'a, R: Files<File = File> + Clock + Threads + Wait + Sync>(
     manner: Manner,
     listeners: Listeners,
 ) -> Result<Output, ReportFault<'a>>
-    ensures ok { IfOk result (λ r. IsPartitionedOf (is_some (option_map (λ path. path.now) log.entry)) manner.workers manner.tries manner.audit
+    ensures ok { IfOk result (λ r. IsPartitionedOf (is_some (option_map (λ path. path.now) log.entry)) manner.workers manner.tries manner.audit manner.strict
         (option_map (λ path. path.now) script.entry) file.now r.status (string_bytes r.lines)) }
     ensures not_text { IfErr result (IsNoTextOf (is_none script.entry) file.now) }
     ensures further { IfErr result (IsApartFault (option_map (λ path. path.now) log.entry) (option_map (λ path. path.now) script.entry)) }
@@ -341,7 +341,8 @@ fn log_report<'a, R: Files>(
 // How the calls of a run are run, when its log begins anew, and who is told of the calls meanwhile.
 fn options_of<'a>(wanted: &RunTask<'a>, progress: Meanwhile) -> RunOptions<'a>
     ensures manner { (result.manner.workers ≡ wanted.now.workers) × (result.manner.tries ≡ wanted.now.tries)
-        × (result.manner.audit ≡ wanted.now.audit) × (result.manner.results ≡ wanted.now.results) }
+        × (result.manner.audit ≡ wanted.now.audit) × (result.manner.strict ≡ wanted.now.strict)
+        × (result.manner.results ≡ wanted.now.results) }
     ensures checkpoints { result.checkpoints ≡ record { at_end = wanted.now.checkpoint; over = wanted.now.over } }
 {
     RunOptions {
@@ -350,6 +351,7 @@ fn options_of<'a>(wanted: &RunTask<'a>, progress: Meanwhile) -> RunOptions<'a>
             tries: wanted.tries,
             stats: wanted.stats,
             audit: wanted.audit,
+            strict: wanted.strict,
             results: wanted.results,
         },
         checkpoints: Checkpoints {
@@ -367,13 +369,15 @@ fn options_of<'a>(wanted: &RunTask<'a>, progress: Meanwhile) -> RunOptions<'a>
 
 // How the calls of a run by partitions are run.
 fn manner_apart(wanted: &PartitionedTask) -> Manner
-    ensures { (result.workers ≡ wanted.now.workers) × (result.tries ≡ wanted.now.tries) × (result.audit ≡ wanted.now.audit) }
+    ensures { (result.workers ≡ wanted.now.workers) × (result.tries ≡ wanted.now.tries) × (result.audit ≡ wanted.now.audit)
+        × (result.strict ≡ wanted.now.strict) }
 {
     Manner {
         workers: wanted.workers,
         tries: wanted.tries,
         stats: false,
         audit: wanted.audit,
+        strict: wanted.strict,
         results: false,
     }
 }

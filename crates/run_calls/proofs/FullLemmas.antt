@@ -4,7 +4,7 @@ use Rattle.std.proofs.lemmas.List.{append-nil, take_more, length-take-le}
 use Rattle.data_component.specs.Store.{Store}
 use Rattle.run_calls.specs.Figures.{full_line, full_lines_from, full_lines}
 
-lines_push : (n : ℕ) (dcs : List Store) (x : Store) → full_lines_from n (dcs ++ x ∷ []) ≡ full_lines_from n dcs ++ full_line (n + length dcs) x
+pub lines_push : (n : ℕ) (dcs : List Store) (x : Store) → full_lines_from n (dcs ++ x ∷ []) ≡ full_lines_from n dcs ++ full_line (n + length dcs) x
 lines_push n [] x = append-nil (full_line n x) ∙ ap (λ (k : ℕ). full_line k x) (sym (add-zero n))
 lines_push n (y ∷ ys) x =
     let places : n + 1 + length ys ≡ n + length (y ∷ ys) = omega arith in

@@ -1,5 +1,6 @@
 -- What calls of two lists were answered, and the data components that were served meanwhile.
-use Rattle.std.specs.Prelude.{◌≡◌, ℕ, Bool, true, false, List, map, length, Some, slice_get}
+use Rattle.std.specs.Prelude.{◌≡◌, ◌&&◌, if◌then◌else◌, ℕ, Bool, true, false, List, map, length, Some, slice_get}
+use Rattle.std.specs.List.{list_any}
 use Rattle.history.specs.Calls as named
 use Rattle.data_component.specs.Store.{Store}
 use Rattle.scripts.specs.declared.script.Call as said
@@ -9,7 +10,7 @@ use Rattle.tc_core.specs.declared.state.Call.{Call}
 use Rattle.worker_pool.specs.Reports.{Reports}
 use Rattle.dc_links.specs.Serving.{IsServed}
 use Rattle.worker_pool.specs.declared.answer.Answer.{Answer}
-use Rattle.worker_pool.specs.declared.answer.Answer.TheVariants.{Refused}
+use Rattle.worker_pool.specs.declared.answer.Answer.TheVariants.{Committed, Aborted, Refused}
 use Rattle.tc_core.specs.declared.state.Refusal.TheVariants as refusal
 
 -- the call that a line of the script says
@@ -36,3 +37,13 @@ pub record AreServed (before after : List Store) : Type 0 where
 abbrev pub is_want_of_memory : Answer → Bool
 is_want_of_memory (Refused refusal.Memory) = true
 is_want_of_memory other = false
+
+-- the call was neither committed nor aborted by its procedure
+abbrev pub is_failed : Answer → Bool
+is_failed (Committed place) = false
+is_failed (Aborted value place) = false
+is_failed other = true
+
+-- the exit status of calls that were run: 1 where it counts that one of these failed, and one did; else what an audit found counts
+abbrev pub run_status : (strict : Bool) → List Answer → (sound : Bool) → ℕ
+run_status strict answers sound = if strict && list_any is_failed answers then 1 else (if sound then 0 else 1)

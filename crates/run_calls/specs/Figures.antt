@@ -1,7 +1,9 @@
 -- How many calls were answered how, as lines.
-use Rattle.std.specs.Prelude.{ℕ, zero, suc, ◌+◌, ◌-◌, ◌*◌, ◌/◌, ◌==◌, max, get_or, Bool, true}
+use Rattle.std.specs.Prelude.{◌≡◌, ℕ, zero, suc, ◌+◌, ◌-◌, ◌*◌, ◌/◌, ◌==◌, max, get_or, Bool, true}
 use Rattle.std.specs.Prelude.{false, if◌then◌else◌, List, [], ◌∷◌, ◌++◌, length, count_by}
-use Rattle.std.specs.Prelude.{filter, map, zip, slice_get, unwrap_or, codes, decimal}
+use Rattle.std.specs.Prelude.{filter, map, zip, slice_get, unwrap_or, codes, decimal, Option, Some, None, string_bytes}
+use Rattle.std.specs.declared.alloc.Global.{Global}
+use Rattle.std.specs.declared.string.String.{String}
 use Rattle.data_component.specs.Store.{Store}
 use Rattle.scripts.specs.declared.script.Call.{Call}
 use Rattle.tc_core.specs.Loaded.{Loaded}
@@ -108,3 +110,14 @@ full_lines_from number (dc ∷ dcs) = full_line number dc ++ full_lines_from (nu
 
 abbrev pub full_lines : List Store → List ℕ
 full_lines dcs = full_lines_from 0 dcs
+
+-- what standard error has behind a run: these figures, and a line for each that is full; nothing where there is none of both
+abbrev pub AreNotes : List ℕ → List Store → Option (String Global) → Type 0
+AreNotes figures dcs None = figures ++ full_lines dcs ≡ []
+AreNotes figures dcs (Some notes) = string_bytes notes ≡ figures ++ full_lines dcs
+
+-- the same, with figures only where these are wanted
+pub record AreNotesIf (wanted : Bool) (dcs : List Store) (notes : Option (String Global)) : Type 0 where
+  pub figures : List ℕ
+  pub unwanted : wanted ≡ false → figures ≡ []
+  pub are : AreNotes figures dcs notes

@@ -5,7 +5,7 @@ ghost use Rattle.std.specs.Prelude.{◌≡◌, ◌++◌, ℕ, Bool, List, [], le
 ghost use Rattle.data_component.specs.Store.{Store};
 ghost use Rattle.worker_pool.specs.Faults.{InRange};
 ghost use Rattle.std.specs.List.{list_any};
-ghost use Rattle.run_calls.specs.Answered.{AreAnswered, AreServed, is_want_of_memory};
+ghost use Rattle.run_calls.specs.Answered.{AreAnswered, AreServed, is_failed, is_want_of_memory, run_status};
 ghost use Rattle.run_calls.specs.Stops.{Stops};
 ghost use Rattle.run_ground.specs.Kept.{KeepsLog};
 ghost use Rattle.run_calls.specs.Joining.Stopping.{stop_of};
@@ -29,14 +29,15 @@ use tc_core::state::{Call, Refusal, TcState};
 use worker_pool::{Answer, MOST_TRIES, MOST_WORKERS, OpenGate, Report, RunFault, run};
 
 /// How the calls of a script are run: the second list by so many workers, each request sent so often
-/// at most; with the figures of that list as notes, with an audit behind the rows, and with what slots of
-/// calls hold behind the calls' lines.
+/// at most; with the figures of that list as notes, with an audit behind the rows, with a status that says whether one of
+/// them failed, and with what slots of calls hold behind the calls' lines.
 #[derive(Clone, Copy, Debug)]
 pub struct Manner {
     pub workers: u64,
     pub tries: u64,
     pub stats: bool,
     pub audit: bool,
+    pub strict: bool,
     pub results: bool,
 }
 
@@ -142,6 +143,23 @@ pub fn has_want_of_memory(answers: &[Answer]) -> bool
     ensures { result ≡ list_any is_want_of_memory answers.now }
 {
     answers.iter().any(|answer| matches!(answer, Answer::Refused(Refusal::Memory)))
+}
+
+// Whether a call was neither committed nor aborted by its procedure.
+fn has_failed(answers: &[Answer]) -> bool
+    ensures { result ≡ list_any is_failed answers.now }
+{
+    answers.iter().any(|answer| !matches!(answer, Answer::Committed(_) | Answer::Aborted(..)))
+}
+
+/// The exit status: 1 where an audit found something wrong and, if that counts, where one of these calls failed.
+pub fn run_status(strict: bool, answers: &[Answer], sound: bool) -> u8
+    ensures { result ≡ run_status strict answers.now sound }
+{
+    if strict && has_failed(answers) {
+        return 1;
+    }
+    u8::from(!sound)
 }
 
 // What both lists left, with the data components behind them, and their answers.

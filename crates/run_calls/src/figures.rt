@@ -5,7 +5,7 @@ ghost use Rattle.std.specs.Duration.{as_nanos};
 ghost use Rattle.run_calls.specs.Figures.{is_committed, is_aborted, is_in_doubt, is_blocked};
 ghost use Rattle.run_calls.specs.Figures.{answers_of, done_text, undone_text, procedure_line, name_at, procedure_lines};
 ghost use Rattle.run_calls.specs.Figures.{log_figures, figure_line, figure_lines, rate_line, all_but, latencies_of};
-ghost use Rattle.run_calls.specs.Figures.{lines_of, delay_lines, full_line, full_lines};
+ghost use Rattle.run_calls.specs.Figures.{lines_of, delay_lines, full_line, full_lines, AreNotes};
 
 use data_component::dc::Dc;
 use run_metrics::Delays;
@@ -235,8 +235,8 @@ pub fn delay_lines(alloc: Global, delays: Delays) -> Result<String, AllocError>
     format!(in alloc; "waits for locks {lock_waits}\nresends {resends}\n")
 }
 
-// The line of a data component that is full; nothing of one that has room.
-fn full_line(alloc: Global, number: usize, dc: &Dc) -> Result<String, AllocError>
+/// The line of a data component that is full; nothing of one that has room.
+pub fn full_line(alloc: Global, number: usize, dc: &Dc) -> Result<String, AllocError>
     ensures { IfOk result (λ s. string_bytes s ≡ full_line number dc.now) }
 {
     if !dc.is_full() {
@@ -246,9 +246,9 @@ fn full_line(alloc: Global, number: usize, dc: &Dc) -> Result<String, AllocError
     format!(in alloc; "full dc {number} {operations} operations\n")
 }
 
-/// A line for each data component that has no room for a further operation: its number, and how many it has
-/// performed.
-pub fn full_dcs(alloc: Global, dcs: &[Dc]) -> Result<String, AllocError>
+// A line for each data component that has no room for a further operation: its number, and how many it has
+// performed.
+fn full_dcs(alloc: Global, dcs: &[Dc]) -> Result<String, AllocError>
     ensures { IfOk result (λ s. string_bytes s ≡ full_lines dcs.now) }
 {
     let mut text = String::new(alloc);
@@ -257,4 +257,17 @@ pub fn full_dcs(alloc: Global, dcs: &[Dc]) -> Result<String, AllocError>
         text.push_str(line.as_str())?;
     }
     Ok(text)
+}
+
+/// These figures, with a line behind them for each data component that is full; nothing where there is none of both.
+pub fn notes_of(alloc: Global, figures: String, dcs: &[Dc]) -> Result<Option<String>, AllocError>
+    ensures { IfOk result (AreNotes (string_bytes figures) dcs.now) }
+{
+    let full = full_dcs(alloc, dcs)?;
+    let mut notes = figures;
+    notes.push_str(full.as_str())?;
+    if notes.is_empty() {
+        return Ok(None);
+    }
+    Ok(Some(notes))
 }

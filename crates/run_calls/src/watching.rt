@@ -4,8 +4,7 @@ ghost use Rattle.std.specs.Prelude.{◌≡◌};
 ghost use Rattle.run_calls.specs.Outcomes.{outcome_of, phase_of};
 
 use crate::answer_lines::answer_line;
-use crate::figures::{Latencies, Watched, full_dcs, name_at};
-use data_component::dc::Dc;
+use crate::figures::{Latencies, Watched, name_at};
 use run_metrics::{Delays, Kind, Metrics, Outcome, OutputFile, Phase, Trace};
 use scripts::script;
 use std::alloc::{AllocError, Global};
@@ -282,16 +281,6 @@ impl Waits {
         }
     }
 
-    /// Tells who listens which of these data components are full, by a line for each.
-    pub fn tell_full(&self, dcs: &[Dc]) {
-        let Some(mut listener) = self.each.or(self.terminal) else {
-            return;
-        };
-        if let Ok(lines) = full_dcs(self.alloc, dcs) {
-            let _ = listener.write_all(lines.as_bytes());
-        }
-    }
-
     /// What was seen of the calls, once all are answered.
     pub fn watched(&self) -> Watched {
         Watched {
@@ -377,14 +366,14 @@ impl<R: Clock> Gate for Watch<'_, R> {
         }
     }
 
-    // Only times are noted, and what delays calls is counted.
-    fn is_silent(&self) -> bool {
-        self.waits.calls.is_empty()
+    // Times are noted, and what delays calls is counted.
+    fn only_notes(&self) -> bool {
+        true
     }
 
-    // Nobody waits for it but where something is written.
+    // What is written for answers that one sync has kept is written together: to write each before the next call begins
+    // would take a sync for each.
     fn is_prompt(&self) -> bool {
-        let waits = self.waits;
-        waits.each.is_none() && waits.terminal.is_none() && waits.metrics.is_none()
+        true
     }
 }

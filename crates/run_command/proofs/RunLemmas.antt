@@ -12,11 +12,11 @@ use Rattle.run_command.specs.Joining.Parts.{HasEnded}
 use Rattle.run_command.specs.Running.{AreLinesOf, IsCallsRun, Ran, Stopped}
 
 pub ran_run : (Kept : Core → Renewal → Type 0) (checkpoints : Checkpoints) (start : Core) (dcs : List Store) (first calls : List Call) (workers tries : ℕ)
-    (audit results : Bool) (status : ℕ) (lines : List ℕ) (o : RunOutcome) → InRange workers tries → HasEnded results start dcs first calls checkpoints o
-    → AreLinesOf o.ground.state o.ground.dcs.items audit o.answers.first.items o.answers.calls.items (string_bytes o.lines) o.renewal
+    (audit strict results : Bool) (status : ℕ) (lines : List ℕ) (o : RunOutcome) → InRange workers tries → HasEnded results start dcs first calls checkpoints o
+    → AreLinesOf o.ground.state o.ground.dcs.items audit strict o.answers.first.items o.answers.calls.items (string_bytes o.lines) o.renewal
     status lines
-    → Kept o.ground.state o.renewal → IsCallsRun Kept checkpoints start dcs first calls workers tries audit results status lines
-ran_run Kept checkpoints start dcs first calls workers tries audit results status lines o range ended printed kept =
+    → Kept o.ground.state o.renewal → IsCallsRun Kept checkpoints start dcs first calls workers tries audit strict results status lines
+ran_run Kept checkpoints start dcs first calls workers tries audit strict results status lines o range ended printed kept =
     Ran range (record {
       first_answers = o.answers.first.items;
       other_answers = o.answers.calls.items;
@@ -37,10 +37,10 @@ ran_run Kept checkpoints start dcs first calls workers tries audit results statu
 
 -- what is kept may be left out
 pub run_weaker : (K L : Core → Renewal → Type 0) → ((c : Core) (r : Renewal) → K c r → L c r) → (checkpoints : Checkpoints) (start : Core) (dcs : List Store)
-    (first calls : List Call) (workers tries : ℕ) (audit results : Bool) (status : ℕ) (lines : List ℕ)
-    → IsCallsRun K checkpoints start dcs first calls workers tries audit results status lines
-    → IsCallsRun L checkpoints start dcs first calls workers tries audit results status lines
-run_weaker K L less checkpoints start dcs first calls workers tries audit results status lines (Ran range r) =
+    (first calls : List Call) (workers tries : ℕ) (audit strict results : Bool) (status : ℕ) (lines : List ℕ)
+    → IsCallsRun K checkpoints start dcs first calls workers tries audit strict results status lines
+    → IsCallsRun L checkpoints start dcs first calls workers tries audit strict results status lines
+run_weaker K L less checkpoints start dcs first calls workers tries audit strict results status lines (Ran range r) =
     Ran range (record {
       first_answers = r.first_answers;
       other_answers = r.other_answers;
@@ -58,4 +58,4 @@ run_weaker K L less checkpoints start dcs first calls workers tries audit result
       printed = r.printed;
       kept = less r.last r.renewal r.kept;
     })
-run_weaker K L less checkpoints start dcs first calls workers tries audit results status lines (Stopped cause stops is line) = Stopped cause stops is line
+run_weaker K L less checkpoints start dcs first calls workers tries audit strict results status lines (Stopped cause stops is line) = Stopped cause stops is line

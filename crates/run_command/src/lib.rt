@@ -2,7 +2,7 @@
 //! of its own, and says what each call was answered, what is kept and, where it is wanted, what an audit finds.
 //!
 //! ```
-//! let manner = Manner { workers: 4, tries: 3, stats: false, audit: true, results: false };
+//! let manner = Manner { workers: 4, tries: 3, stats: false, audit: true, strict: false, results: false };
 //! let text = "dc 8 64\nproc put 2\n..end\nproc get 1\n..end\nfirst put 5 100\ncall get 5\n";
 //! let listeners = Listeners { terminal: None, each: None, metrics: None, trace: None, system: rt };
 //! let report = running(rt, alloc, Source { object: None, text }, manner, listeners)?;

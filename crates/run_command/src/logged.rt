@@ -104,7 +104,7 @@ fn run_on<R: Files<File = File> + Clock + Threads + Wait + Sync>(
 ) -> Result<RunReport, Stop>
     ensures { KeepsLog (Some back.journal) loaded.state.events → IfOk result (λ r.
         IsRunOn r.journal options.entry.checkpoints loaded.state loaded.dcs.items loaded.first.items loaded.calls.items
-        options.entry.manner.workers options.entry.manner.tries options.entry.manner.audit options.entry.manner.results
+        options.entry.manner.workers options.entry.manner.tries options.entry.manner.audit options.entry.manner.strict options.entry.manner.results
         r.report.status (string_bytes back.lines) (string_bytes r.report.lines)) }
 {
     let RecoveredRun { journal, mut lines } = back;
@@ -157,7 +157,7 @@ fn run_behind<R: Files<File = File> + Clock + Threads + Wait + Sync>(
     requires { All HasOnlyRows loaded.dcs.items }
     ensures { IfOk result (λ r. IsLoggedRun r.journal options.entry.checkpoints loaded.state loaded.dcs.items
         loaded.first.items loaded.calls.items
-        options.entry.manner.workers options.entry.manner.tries options.entry.manner.audit options.entry.manner.results
+        options.entry.manner.workers options.entry.manner.tries options.entry.manner.audit options.entry.manner.strict options.entry.manner.results
         r.report.status (string_bytes r.report.lines)) }
 {
     let mut loaded = loaded;
@@ -205,7 +205,7 @@ pub fn running_logged<R: Files<File = File> + Clock + Threads + Wait + Sync>(
     options: RunOptions,
 ) -> Result<RunReport, Stop>
     ensures { IfOk result (λ r. IsLogged r.journal options.entry.checkpoints options.entry.manner.workers options.entry.manner.tries
-        options.entry.manner.audit options.entry.manner.results (beginning_of command.Run source.entry) r.report.status (string_bytes r.report.lines)) }
+        options.entry.manner.audit options.entry.manner.strict options.entry.manner.results (beginning_of command.Run source.entry) r.report.status (string_bytes r.report.lines)) }
 {
     match load_source(alloc, Command::Run, source)? {
         Loading::Ready(loaded) => run_behind(rt, alloc, path, loaded, options),

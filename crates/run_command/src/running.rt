@@ -1,9 +1,10 @@
 //! `run`: the calls of a script by workers, a line for each, and then what the data components keep.
 
-ghost use Rattle.std.specs.Prelude.{◌≡◌, ℕ, Bool, Ok, IfOk, IfErr, Some, is_some, string_bytes};
+ghost use Rattle.std.specs.Prelude.{◌≡◌, ℕ, [], Bool, false, Ok, IfOk, IfErr, Some, is_some, string_bytes};
 ghost use Rattle.script_loading.specs.Loading.{beginning_of};
 ghost use Rattle.scripts.specs.declared.keyword.Command.TheVariants as command;
 ghost use Rattle.run_calls.specs.AnswerLines.{fault_line};
+ghost use Rattle.run_calls.specs.Figures.{AreNotesIf};
 ghost use Rattle.run_ground.specs.Kept.{KeepsLog};
 ghost use Rattle.run_command.specs.Parts.{IsKeptSo};
 ghost use Rattle.run_ground.specs.Stops.{IsUnkept};
@@ -13,9 +14,9 @@ ghost use Rattle.run_command.specs.Running.{AreLinesOf, IsCallsRun, IsRun};
 
 use crate::parts::{RunOutcome, answer_parts};
 use report_texts::output::Output;
-use run_calls::answering::{Answers, Manner, RunInput, has_want_of_memory};
+use run_calls::answering::{Answers, Manner, RunInput, has_want_of_memory, run_status};
 use run_calls::figures::{
-    Watched, delay_lines, figures, full_dcs, latency_lines, log_figures, procedure_lines, rate,
+    Watched, delay_lines, figures, latency_lines, log_figures, notes_of, procedure_lines, rate,
 };
 use run_calls::stop::{of_manner, stopped};
 use run_calls::watching::{Listeners, Waits};
@@ -47,33 +48,37 @@ fn time_lines(alloc: Global, answers: &Answers, watched: Watched) -> Result<Stri
     Ok(lines)
 }
 
-// The figures of the second list and of the log's file, and which data components are full.
-fn notes(
+// The figures of the second list and of the log's file, where they are wanted.
+fn figures_if(
     alloc: Global,
     ground: &Ground,
-    calls: &[script::Call],
+    input: RunInput<script::Call>,
     answers: &Answers,
     watched: Watched,
-) -> Result<String, AllocError> {
+) -> Result<String, AllocError>
+    ensures { IfOk result (λ figures. input.entry.manner.stats ≡ false → string_bytes figures ≡ []) }
+{
+    if !input.manner.stats {
+        return Ok(String::new(alloc));
+    }
     let answered = answers.calls.as_slice();
-    let mut notes = figures(alloc, answered)?;
-    let procedures = procedure_lines(alloc, ground.state.procs(), calls, answered)?;
-    notes.push_str(procedures.as_str())?;
+    let mut text = figures(alloc, answered)?;
+    let procedures = procedure_lines(alloc, ground.state.procs(), input.calls, answered)?;
+    text.push_str(procedures.as_str())?;
     let times = time_lines(alloc, answers, watched)?;
-    notes.push_str(times.as_str())?;
+    text.push_str(times.as_str())?;
     let delays = delay_lines(alloc, watched.delays)?;
-    notes.push_str(delays.as_str())?;
+    text.push_str(delays.as_str())?;
     if let Some(journal) = &ground.journal {
         let device = journal.device();
         let log = log_figures(alloc, device.syncs(), device.len())?;
-        notes.push_str(log.as_str())?;
+        text.push_str(log.as_str())?;
     }
-    let full = full_dcs(alloc, ground.dcs.as_slice())?;
-    notes.push_str(full.as_str())?;
-    Ok(notes)
+    Ok(text)
 }
 
-// The report of calls that were run, whose lines these are.
+// The report of calls that were run, whose lines these are. Whatever is wanted, it has a note of each data component that
+// is full.
 fn reported(
     alloc: Global,
     ground: &Ground,
@@ -83,8 +88,9 @@ fn reported(
     renewal: Renewal,
     watched: Watched,
 ) -> Result<Output, AllocError>
-    ensures { IfOk result (λ r. AreLinesOf ground.now.state ground.now.dcs.items input.entry.manner.audit
+    ensures lines { IfOk result (λ r. AreLinesOf ground.now.state ground.now.dcs.items input.entry.manner.audit input.entry.manner.strict
         answers.now.first.items answers.now.calls.items (string_bytes lines) renewal r.status (string_bytes r.lines)) }
+    ensures full { IfOk result (λ r. AreNotesIf input.entry.manner.stats ground.now.dcs.items r.notes) }
 {
     let first = answers.first.as_slice();
     let calls = answers.calls.as_slice();
@@ -96,14 +102,11 @@ fn reported(
     write_renewal(alloc, renewal, &ground.state, &mut lines)?;
     write_all_rows(alloc, dcs, &mut lines)?;
     let sound = write_audit_if(alloc, input.manner.audit, &ground.state, dcs, &mut lines)?;
+    let figures = figures_if(alloc, ground, input, answers, watched)?;
     Ok(Output {
-        status: u8::from(!sound),
+        status: run_status(input.manner.strict, calls, sound),
         lines,
-        notes: if input.manner.stats {
-            Some(notes(alloc, ground, input.calls, answers, watched)?)
-        } else {
-            None
-        },
+        notes: notes_of(alloc, figures, dcs)?,
     })
 }
 
@@ -145,8 +148,7 @@ fn with_journal(
     }
 }
 
-// Ends what is told of calls while they last: with the metrics, the trace and, unless that stands among the figures, which
-// data components are full.
+// Ends what is told of calls while they last: with the metrics and the trace.
 fn tell_end(waits: &Waits, input: RunInput<script::Call>, outcome: &RunOutcome) {
     waits.end();
     let journal = outcome.ground.journal.as_ref();
@@ -156,9 +158,6 @@ fn tell_end(waits: &Waits, input: RunInput<script::Call>, outcome: &RunOutcome) 
         input.calls,
         outcome.answers.calls.as_slice(),
     );
-    if !input.manner.stats {
-        waits.tell_full(outcome.ground.dcs.as_slice());
-    }
 }
 
 // The report of calls that were stopped, or why there is none.
@@ -191,7 +190,7 @@ fn ended(
     outcome: RunOutcome,
 ) -> Result<RunReport, Stop>
     ensures ok { IfOk result (λ r. (r.journal ≡ outcome.ground.journal)
-        × AreLinesOf outcome.ground.state outcome.ground.dcs.items input.entry.manner.audit
+        × AreLinesOf outcome.ground.state outcome.ground.dcs.items input.entry.manner.audit input.entry.manner.strict
         outcome.answers.first.items outcome.answers.calls.items (string_bytes outcome.lines) outcome.renewal
         r.report.status (string_bytes r.report.lines)) }
     ensures err { IfErr result (λ e. e ≡ Stop.Memory) }
@@ -222,7 +221,7 @@ pub fn run_from<R: Files<File = File> + Clock + Threads + Wait + Sync>(
 ) -> Result<RunReport, Stop>
     ensures run { KeepsLog ground.journal ground.state.events → IfOk result (λ r. IsCallsRun (IsKeptSo r.journal input.entry.checkpoints)
         input.entry.checkpoints ground.state ground.dcs.items input.entry.first.now input.entry.calls.now
-        input.entry.manner.workers input.entry.manner.tries input.entry.manner.audit input.entry.manner.results
+        input.entry.manner.workers input.entry.manner.tries input.entry.manner.audit input.entry.manner.strict input.entry.manner.results
         r.report.status (string_bytes r.report.lines)) }
     ensures fault { IfErr result (IsUnkept (is_some ground.journal)) }
 {
@@ -253,7 +252,7 @@ pub fn running<R: Files<File = File> + Clock + Threads + Wait + Sync>(
     manner: Manner,
     listeners: Listeners,
 ) -> Result<Output, AllocError>
-    ensures { IfOk result (λ r. IsRun manner.workers manner.tries manner.audit manner.results (beginning_of command.Run source.entry)
+    ensures { IfOk result (λ r. IsRun manner.workers manner.tries manner.audit manner.strict manner.results (beginning_of command.Run source.entry)
         r.status (string_bytes r.lines)) }
 {
     let loaded = match load_source(alloc, Command::Run, source)? {

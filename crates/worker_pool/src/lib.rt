@@ -20,7 +20,7 @@
 //! A [`Link`] of your own carries wires to data components elsewhere. It may lose, repeat, delay and
 //! change what it carries; the report stays true of the log. `dc_links` has those to data components of
 //! this process. A [`Gate`] is told when a call is admitted, which [`Stage`] it reaches, and of its answer by an
-//! [`Acknowledgement`]. Where it is silent about all but the last, a link may perform wires at once, under the lock
+//! [`Acknowledgement`]. Where it only notes all but the last, a link may perform wires at once, under the lock
 //! (`Link::perform_at_once`).
 //! A run keeps its log in a journal (`journals`), and tells no answer before the log that it is true of is
 //! kept; with `NoJournal` it keeps nothing. Between two lists of calls the log of a report's state may begin anew:

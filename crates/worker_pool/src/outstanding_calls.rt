@@ -88,7 +88,13 @@ enum Course<J: RunSpec> {
 
 // What a step of a call leads to.
 #[inline(always)]
-fn course_of<J: RunSpec>(pool_state: &PoolState<J>, k: usize, call: &Call, next: Next) -> Course<J>
+fn course_of<J: RunSpec, P: RunPerformer<J>>(
+    pool_state: &PoolState<J>,
+    k: usize,
+    call: &Call,
+    next: Next,
+    performer: &P,
+) -> Course<J>
     requires call { slice_get J.calls k ≡ Some call.now }
     requires answered { IsAnsweredBy pool_state.now.progress k next }
 {
@@ -96,7 +102,10 @@ fn course_of<J: RunSpec>(pool_state: &PoolState<J>, k: usize, call: &Call, next:
         Next::Carry => Course::Carry,
         Next::Unanswered => Course::Unanswered,
         Next::Begun | Next::Busy => Course::Waits,
-        Next::Over => Course::Answered(pool_state.ready(k, call)),
+        Next::Over => {
+            performer.note_answered(k);
+            Course::Answered(pool_state.ready(k, call))
+        }
         Next::LeftOut => Course::Over,
     }
 }
@@ -117,7 +126,7 @@ fn first_steps<J: RunSpec, P: RunPerformer<J>>(
 {
     match pool_state.advance(outstanding.call, call, &mut outstanding.attempt, performer) {
         Next::Begun => {
-            outstanding.is_begun = true;
+            outstanding.is_begun = !performer.notes_begun(outstanding.call);
             pool_state.advance(outstanding.call, call, &mut outstanding.attempt, performer)
         }
         next => next,
@@ -138,7 +147,7 @@ fn start<J: RunSpec, P: RunPerformer<J>>(
     pool_state.release(&mut outstanding.attempt);
     outstanding.restart(k);
     let next = first_steps(pool_state, call, outstanding, performer);
-    course_of(pool_state, k, call, next)
+    course_of(pool_state, k, call, next, performer)
 }
 
 // The same of the call with this number, which is one of these.
@@ -204,7 +213,7 @@ fn go_on<J: RunSpec, P: RunPerformer<J>>(
 {
     outstanding.is_again = outstanding.reply.is_none();
     let next = next_step(pool_state, call, outstanding, performer);
-    course_of(pool_state, outstanding.call, call, next)
+    course_of(pool_state, outstanding.call, call, next, performer)
 }
 
 // The next step of an outstanding call's call, which is one of these.
@@ -593,7 +602,19 @@ impl<J: RunSpec> OutstandingCalls<J> {
         !self.over.is_empty()
     }
 
-    /// An answer that is ready.
+    /// Tells the gate of the answers that are ready, unless it noted that already, and puts the first one last.
+    pub fn tell_ready<G: Gate>(&mut self, gate: &G)
+        ensures { self.new ≡ self.old }
+    {
+        if !gate.only_notes() {
+            for ready in &self.over {
+                ready.tell_stage(gate);
+            }
+        }
+        self.over.reverse();
+    }
+
+    /// The last one of the answers that are ready.
     pub fn next_ready(&mut self) -> Option<ReadyAnswer<J>>
         ensures { IfSome result (λ ready. self.new + 1 ≡ self.old) }
     {

@@ -42,21 +42,23 @@ const WAITING_CALLS: usize = 64;
 
 /// What is told of the calls, by their places in the list.
 pub trait Gate {
-    /// The call was admitted. It is called once, without the lock, before anything is sent for it. A gate that is silent
-    /// may be told later, or never.
+    /// The call was admitted. It is called once, before anything is sent for it, and without the lock unless the gate
+    /// only notes.
     fn begun(&self, call: usize);
 
-    /// A call came to a stage of its way. It is called without the lock, of each wait once. A gate that is silent is
-    /// told of some stages, or of none; where no other worker is left, nobody is told of waits.
+    /// A call came to a stage of its way. It is called without the lock unless the gate only notes, of each wait once.
+    /// Where no other worker is left, nobody is told of waits.
     fn reaches(&self, _call: usize, _stage: Stage) {}
 
-    /// A call's answer stands, and in a run with a journal the log that it is true of is kept. It is called
-    /// once, without the lock. A call that isn't tried, since memory ran out before it, is told to nobody.
+    /// A call's answer is there, and in a run with a journal the log that it is true of is kept. It is called once,
+    /// without the lock, one after the other of the answers that a worker came to under one taking of the lock, in the
+    /// order of the log. A call that isn't tried, since memory ran out before it, is told to nobody.
     fn answered<J: RunSpec>(&self, acknowledgement: &Acknowledgement<J>);
 
-    /// Whether the gate does nothing where a call is begun or reaches a stage. Then, over a link that performs at once, a call is run
-    /// under one taking of the lock, as far as the link performs.
-    fn is_silent(&self) -> bool {
+    /// Whether the gate only notes where a call is begun or reaches a stage, and waits for nobody then: so it is told of
+    /// that under the lock too. Then, over a link that performs at once, a call is run under one taking of the lock, as
+    /// far as the link performs.
+    fn only_notes(&self) -> bool {
         false
     }
 
@@ -75,7 +77,7 @@ impl Gate for OpenGate {
 
     fn answered<J: RunSpec>(&self, _acknowledgement: &Acknowledgement<J>) {}
 
-    fn is_silent(&self) -> bool {
+    fn only_notes(&self) -> bool {
         true
     }
 
@@ -138,7 +140,7 @@ fn run_alone<J: RunSpec, K: Journal, R: Wait, L: Link, G: Gate>(
     ensures stopped { IfErr result (λ stopped. group_commit.new.fault ≡ Some stopped.why) }
 {
     let mut attempt = Attempt::none();
-    let performer = AtOnce::new(rt, worker.link, false);
+    let performer = AtOnce::unwanted(rt, worker.link, worker.gate);
     let mut carried = Stage::Carried;
     let mut next = pool_state.advance(k, call, &mut attempt, &performer);
     for _ in rt.forever() {
@@ -275,7 +277,10 @@ fn schedule<J: RunSpec, K: Journal, R: Wait, P: RunPerformer<J>, G: Gate>(
         if !outstanding_calls.is_waiting() || pool.commit_lock.is_stopped() {
             return false;
         }
-        if !gate.is_silent() && outstanding_calls.has_new_wait() {
+        if gate.only_notes() {
+            outstanding_calls.tell_waiting(gate);
+        }
+        if outstanding_calls.has_new_wait() {
             drop(pool_state);
             outstanding_calls.tell_waiting(gate);
             pool_state = acquire(rt, &pool.state);
@@ -299,7 +304,7 @@ fn work<J: RunSpec, K: Journal, R: Wait, L: Link, G: Gate>(
     requires { calls.now ≡ J.calls }
 {
     let gate = worker.gate;
-    let performer = AtOnce::new(rt, worker.link, gate.is_silent());
+    let performer = AtOnce::new(rt, worker.link, gate);
     let mut outstanding_calls = OutstandingCalls::new(alloc);
     if outstanding_calls.reserve(worker.most).is_ok() {
         for _ in rt.forever() {
@@ -310,8 +315,8 @@ fn work<J: RunSpec, K: Journal, R: Wait, L: Link, G: Gate>(
             }
             outstanding_calls.tell_waiting(gate);
             outstanding_calls.tell_begun(gate);
+            outstanding_calls.tell_ready(gate);
             while let Some(ready) = outstanding_calls.next_ready() {
-                ready.tell_stage(gate);
                 conclude(rt, pool, ready, gate);
             }
             if pool.commit_lock.is_stopped() {

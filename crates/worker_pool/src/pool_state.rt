@@ -23,7 +23,7 @@ use crate::answer::{Answer, Progress, answer_for, answers_of};
 use crate::attempt::{Attempt, is_sent_for};
 use crate::batch::Batch;
 use crate::handed::{Count, Handed};
-use crate::performing::RunPerformer;
+use crate::performing::{CallPerformer, RunPerformer};
 use crate::report::Report;
 use crate::run_spec::RunSpec;
 use access_slots::op::{News, Reply, Wire};
@@ -467,7 +467,8 @@ impl<J: RunSpec> PoolState<J> {
         ensures same { self.new.progress ≡ self.old.progress }
     {
         self.touched = true;
-        let asked = self.state.run_at_once(txn, performer);
+        let performer: CallPerformer<J, P> = CallPerformer::new(performer, k);
+        let asked = self.state.run_at_once(txn, &performer);
         self.state.known();
         asked
     }

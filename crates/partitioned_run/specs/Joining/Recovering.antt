@@ -10,7 +10,8 @@ use Rattle.run_log.specs.declared.recovering.Recovery.TheVariants.{Ready, Refuse
 use Rattle.scripts.specs.Reading.{Contents}
 use Rattle.tc_core.specs.Core.{Core}
 use Rattle.partitioned_run.specs.declared.grounds.Start.{Start}
-use Rattle.partitioned_run.specs.Logged.{partition_line, AreStarts, IsFileRefusal, IsStart}
+use Rattle.partitioned_run.specs.Logged.{AreStarts, IsFileRefusal, IsStart}
+use Rattle.partitioned_run.specs.Partitioned.{partition_line}
 
 -- the file of a partition is refused
 abbrev pub IsRefusedAt : Core → List Store → (numbers : List ℕ) → ℕ → Output → Type 0

@@ -54,6 +54,6 @@ pub record HaveRun (keeps : Bool) (c : Contents) (d : Division) (front : List �
   pub run : AreAllRun c d starts all
 
 -- with or without files
-abbrev pub IsRunSo : (keeps : Bool) → Contents → Bool → ℕ → List ℕ → Type 0
-IsRunSo false c audit status lines = IsRunApart c audit status lines
-IsRunSo true c audit status lines = AreRunBehind c audit status lines
+abbrev pub IsRunSo : (keeps : Bool) → Contents → Bool → Bool → ℕ → List ℕ → Type 0
+IsRunSo false c audit strict status lines = IsRunApart c audit strict status lines
+IsRunSo true c audit strict status lines = AreRunBehind c audit strict status lines

@@ -11,20 +11,20 @@ use Rattle.procd.specs.declared.report.ReportFault.TheVariants.{NotText, Unread,
 -- the command reads the further file with this path
 abbrev pub Reads : Wish → List ℕ → Type 0
 Reads (World log audit script) path = script ≡ Some path
-Reads (Run workers tries stats audit results tell metrics trace log checkpoint over script) path = (log ≡ Some path) ⊎ (script ≡ Some path)
-Reads (Partitioned workers tries audit log script) path = script ≡ Some path
+Reads (Run workers tries stats audit strict results tell metrics trace log checkpoint over script) path = (log ≡ Some path) ⊎ (script ≡ Some path)
+Reads (Partitioned workers tries audit strict log script) path = script ≡ Some path
 Reads (Log (Audit source script)) path = (source ≡ path) ⊎ (script ≡ Some path)
 Reads other path = ⊥
 
 -- it writes it
 abbrev pub Writes : Wish → List ℕ → Type 0
-Writes (Run workers tries stats audit results tell metrics trace log checkpoint over script) path = log ≡ Some path
+Writes (Run workers tries stats audit strict results tell metrics trace log checkpoint over script) path = log ≡ Some path
 Writes (Log (Picture file part)) path = file ≡ path
 Writes other path = ⊥
 
 -- it keeps the logs of partitions in files of this path, but for their numbers behind it
 abbrev pub Keeps : Wish → List ℕ → Type 0
-Keeps (Partitioned workers tries audit log script) path = log ≡ Some path
+Keeps (Partitioned workers tries audit strict log script) path = log ≡ Some path
 Keeps other path = ⊥
 
 -- where a further file isn't read or written, it is the command's

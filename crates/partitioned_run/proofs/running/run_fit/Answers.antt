@@ -7,5 +7,5 @@ pub returns-in_ok-stopped-in-Some : goal.returns-in_ok-stopped-in-Some
 returns-in_ok-stopped-in-Some g c =
     let m = c.args.manner in
     let r = c.in_ok-stopped-in-Some.field-0 in
-    stopped_so (is_some c.args.log) (contents_of c.args.accepted.script) m.workers m.tries m.audit c.in-Some.stop r.status (string_bytes r.lines)
+    stopped_so (is_some c.args.log) (contents_of c.args.accepted.script) m.workers m.tries m.audit m.strict c.in-Some.stop r.status (string_bytes r.lines)
     (c.in-Some.ensures.unfit false) c.in_ok-stopped-in-Some.ensures.lines c.in_ok-stopped-in-Some.ensures.status

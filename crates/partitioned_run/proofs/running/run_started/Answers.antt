@@ -29,11 +29,11 @@ reported_if_named-report-requires-clause-run g c =
 pub returns-in-Ok-outcomes_of : goal.returns-in-Ok-outcomes_of
 returns-in-Ok-outcomes_of g c = λ range.
     let m = c.args.task.manner in
-    ran_apart (is_some c.args.task.log) (contents_of c.args.task.script.now) m.workers m.tries m.audit c.reported_if_named-report.result range c.reported_if_named-report.ensures
+    ran_apart (is_some c.args.task.log) (contents_of c.args.task.script.now) m.workers m.tries m.audit m.strict c.reported_if_named-report.result range c.reported_if_named-report.ensures
 
 pub returns-in-Err-Stopped-default-NoThread : goal.returns-in-Err-Stopped-default-NoThread
 returns-in-Err-Stopped-default-NoThread g c = λ range.
     let m = c.args.task.manner in
     let stopped = c.in_ok-stopped-in-Err-Stopped-default-NoThread in
-    stopped_so (is_some c.args.task.log) (contents_of c.args.task.script.now) m.workers m.tries m.audit NoThread stopped.field-0.status
+    stopped_so (is_some c.args.task.log) (contents_of c.args.task.script.now) m.workers m.tries m.audit m.strict NoThread stopped.field-0.status
     (string_bytes stopped.field-0.lines) range.1 stopped.ensures.lines stopped.ensures.status

@@ -14,4 +14,4 @@ returns-in-Accepted g c =
     let is = subst (MayBeRun object b) c.in-Accepted.is c.in_ok-acceptance.ensures in
     let m = c.args.manner in
     IfOk-weaker c.run_fit.result _ _
-    (λ r run. accepted_run (is_some c.args.log) b c.in-Accepted.accepted.script m.workers m.tries m.audit r.status (string_bytes r.lines) is.2 is.3 run) c.run_fit.ensures
+    (λ r run. accepted_run (is_some c.args.log) b c.in-Accepted.accepted.script m.workers m.tries m.audit m.strict r.status (string_bytes r.lines) is.2 is.3 run) c.run_fit.ensures

@@ -1,6 +1,6 @@
 use Rattle.std.proofs.Common.{Bool, refl, rules, inl, inr, subst}
 use Rattle.std.specs.Prelude.{string_bytes}
-use Rattle.command_line.specs.Task.{wish_of, wants_figures}
+use Rattle.command_line.specs.Task.{wish_of, may_tell}
 use Rattle.procd.specs.Joining.Further.{Keeps, Reads, Writes}
 use Rattle.procd.specs.Report.{IsReport}
 use Rattle.program_files.specs.Streams.{stream, Gets, Begins}
@@ -13,9 +13,9 @@ returns g c =
     let lines = string_bytes c.in-Ok.report.lines in
     let said : IsReport (wish_of c.args.wanted.now.task) c.args.text.now c.in-Ok.report.status lines = search rules in
     let written : Gets (stream (g.W.Write.contents c.args.streams.now.out) (g.W.Write.contents c.tell.new.to)) lines = search rules in
-    let told : TellsIf (wants_figures (wish_of c.args.wanted.now.task)) (stream (g.E.Write.contents c.args.streams.now.err) (g.E.Write.contents c.tell_notes.new.err))
+    let told : TellsIf (may_tell (wish_of c.args.wanted.now.task)) (stream (g.E.Write.contents c.args.streams.now.err) (g.E.Write.contents c.tell_notes.new.err))
     = subst (λ (b : Bool). TellsIf b (stream (g.E.Write.contents c.args.streams.now.err)
-    (g.E.Write.contents c.tell_notes.new.err))) c.wants_figures.ensures c.tell_notes.ensures in
+    (g.E.Write.contents c.tell_notes.new.err))) c.may_tell.ensures c.tell_notes.ensures in
     inr (inr (inr (inr (lines, said, written, told))))
 
 pub returns-in-Err : goal.returns-in-Err

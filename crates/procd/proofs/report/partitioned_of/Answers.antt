@@ -12,9 +12,9 @@ returns-in-Ok-clause-ok g c =
     let r = c.in-Ok.report in
     let log = option_map (λ (path : Bor (List ℕ)). path.now) c.args.log in
     let script = option_map (λ (path : Bor (List ℕ)). path.now) c.args.script in
-    partitioned_of_source (is_some log) m.workers m.tries m.audit script c.args.file.now c.in_ok-source.source r.status (string_bytes r.lines)
+    partitioned_of_source (is_some log) m.workers m.tries m.audit m.strict script c.args.file.now c.in_ok-source.source r.status (string_bytes r.lines)
     c.in_ok-source.ensures.ok
-    (subst (λ (b : Bool). IsPartitionedRun b m.workers m.tries m.audit (beginning_of command.Run c.in_ok-source.source) r.status (string_bytes r.lines))
+    (subst (λ (b : Bool). IsPartitionedRun b m.workers m.tries m.audit m.strict (beginning_of command.Run c.in_ok-source.source) r.status (string_bytes r.lines))
     (as_there (λ (path : Bor (List ℕ)). path.now) c.args.log) c.in-Ok.ensures)
 
 pub returns-clause-further : goal.returns-clause-further

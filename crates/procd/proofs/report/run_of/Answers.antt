@@ -11,7 +11,7 @@ returns-in-Some-clause-ok g c =
     let log = option_map (λ (path : Bor (List ℕ)). path.now) c.args.log in
     let script = option_map (λ (path : Bor (List ℕ)). path.now) c.args.script in
     IfOk-weaker c.logged.result _ _ (λ r h.
-    run_of_source o.checkpoints m.workers m.tries m.audit m.results log script c.args.file.now c.in_ok-source.source r.status (string_bytes r.lines)
+    run_of_source o.checkpoints m.workers m.tries m.audit m.strict m.results log script c.args.file.now c.in_ok-source.source r.status (string_bytes r.lines)
     c.in_ok-source.ensures.ok (rw c.in-Some.is h)) c.logged.ensures.ok
 
 pub returns-in-Ok-clause-ok : goal.returns-in-Ok-clause-ok
@@ -21,5 +21,5 @@ returns-in-Ok-clause-ok g c =
     let r = c.in-Ok.report in
     let log = option_map (λ (path : Bor (List ℕ)). path.now) c.args.log in
     let script = option_map (λ (path : Bor (List ℕ)). path.now) c.args.script in
-    run_of_source o.checkpoints m.workers m.tries m.audit m.results log script c.args.file.now c.in_ok-source.source r.status (string_bytes r.lines)
+    run_of_source o.checkpoints m.workers m.tries m.audit m.strict m.results log script c.args.file.now c.in_ok-source.source r.status (string_bytes r.lines)
     c.in_ok-source.ensures.ok (rw c.in-None.is c.in-Ok.ensures)

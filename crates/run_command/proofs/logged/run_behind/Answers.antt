@@ -41,10 +41,10 @@ returns-in-Ok-Ready g c =
       dropped = b.dropped;
       path = b.path;
       on = subst (λ (lines : List ℕ). IsRunOn r.journal options.checkpoints c.begin.new.state c.begin.new.dcs
-          loaded.first.items loaded.calls.items options.manner.workers options.manner.tries options.manner.audit
+          loaded.first.items loaded.calls.items options.manner.workers options.manner.tries options.manner.audit options.manner.strict
           options.manner.results r.report.status lines (string_bytes r.report.lines)) b.lines
           (subst (λ (dcs : List Store). IsRunOn r.journal options.checkpoints c.begin.new.state dcs loaded.first.items
-          loaded.calls.items options.manner.workers options.manner.tries options.manner.audit options.manner.results
+          loaded.calls.items options.manner.workers options.manner.tries options.manner.audit options.manner.strict options.manner.results
           r.report.status (string_bytes c.in-Ok-Ready.back.lines) (string_bytes r.report.lines)) whole h);
     })) (c.run_on.ensures b.kept)
 

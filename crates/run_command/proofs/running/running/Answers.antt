@@ -19,7 +19,7 @@ returns-in-Ok g c =
     let m = c.args.manner in
     let r = c.in-Ok.field-0 in
     let run = run_weaker (IsKeptSo r.journal never) (λ _ _. Unit {0}) (λ last renewal kept. tt) never loaded.state
-    loaded.dcs.items loaded.first.items loaded.calls.items m.workers m.tries m.audit m.results r.report.status
+    loaded.dcs.items loaded.first.items loaded.calls.items m.workers m.tries m.audit m.strict m.results r.report.status
     (string_bytes r.report.lines)
     (rw (c.as_slice.ensures.value, c.as_slice-2.ensures.value) at (c.in-Ok.ensures.run tt)) in
     rw ready.0 (rw (ready.1.state, ready.1.dcs, ready.1.first, ready.1.calls) at run)

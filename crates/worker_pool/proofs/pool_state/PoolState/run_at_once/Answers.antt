@@ -7,9 +7,8 @@ use Rattle.worker_pool.proofs.Grown.{handed_run}
 use Rattle.worker_pool.proofs.pool_state.PoolState.run_at_once.Goals as goal
 
 pub run_at_once-asked-requires : goal.run_at_once-asked-requires
-run_at_once-asked-requires g c = λ now r w ran legal made. g.met.P.RunPerformer.all_in_flight w
-    (all_flew g.J.RunSpec.start g.J.RunSpec.calls c.self.inside.progress.items c.args.txn.serial c.self.inside.state c.self.invariant.0
-    now r w ran legal made)
+run_at_once-asked-requires g c =
+    all_flew g.J.RunSpec.start g.J.RunSpec.calls c.self.inside.progress.items c.args.txn.serial c.self.inside.state c.self.invariant.0
 
 pub invariant_of-self : goal.invariant_of-self
 invariant_of-self g c =
