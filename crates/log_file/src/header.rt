@@ -252,10 +252,8 @@ fn has_front(bytes: &[u8], frame: usize, head: &[u8; 16]) -> bool
 pub(crate) fn may_begin(bytes: &[u8]) -> bool
     ensures { IsTrue result ↔ (HasFront 64 bytes.now ⊎ HasFront 72 bytes.now) }
 {
-    let is_plain = has_front(bytes, FRAME, &FRONT);
-    let is_of_session = has_front(bytes, FRAME_OF_SESSION, &FRONT_OF_SESSION);
-    if is_plain {
+    if has_front(bytes, FRAME, &FRONT) {
         return true;
     }
-    is_of_session
+    has_front(bytes, FRAME_OF_SESSION, &FRONT_OF_SESSION)
 }
