@@ -6,7 +6,7 @@ use Rattle.log_file.specs.declared.header.Header.{Header}
 use Rattle.log_file.specs.Bytes.{Rows, of_session}
 use Rattle.log_file.specs.Reading.{IsBehind, begins_anew}
 use Rattle.procedure_digest.specs.Header.{header_of}
-use Rattle.engine_log.specs.Handing.{base_by, base_of, AreFrames, HasNoRecords, IsBegun, HasHandedOut, Nothing, Begun, Fits, IsFor, header_by, GoesOn, IsOneMore}
+use Rattle.engine_log.specs.Handing.{base_by, base_of, AreFrames, HasNoRecords, HasHandedOut, Nothing, Begun, Fits, IsFor, header_by, GoesOn, IsOneMore}
 use Rattle.engine_log.specs.declared.ahead.EngineLog.{EngineLog}
 
 pub on_ok : {T E A B : Type 0} (r : Result T E) → (A → B) → OnOk r A → OnOk r B

@@ -1,5 +1,5 @@
 use Rattle.std.proofs.Common.{◌≡◌, ap, length, refl, rules}
-use Rattle.engine_log.proofs.BackLemmas.{is_back, has_records}
+use Rattle.engine_log.proofs.BackLemmas.{is_back}
 use Rattle.engine_log.proofs.back.behind.Goals as goal
 
 pub returns-clause-back : goal.returns-clause-back

@@ -1,4 +1,4 @@
-use Rattle.std.proofs.Common.{◌≡◌, ◌++◌, List, ℕ, Some, None, sym, ◌∙◌, rules}
+use Rattle.std.proofs.Common.{◌≡◌, ◌++◌, None, rules}
 use Rattle.engine_log.specs.Handing.{Fits}
 use Rattle.engine_log.proofs.AheadLemmas.{on_ok, goes_on, begins}
 use Rattle.engine_log.proofs.ahead.EngineLog.ahead.Goals as goal
