@@ -21,8 +21,8 @@
  * A WRITE OR A SYNC THAT FAILS is final: what the file has then isn't known. Each later call is MZ_LOG_FAILED. Tell nobody,
  * close, and open it again in another process.
  *
- * A DEVICE OF YOUR OWN takes the file's place by mz_log_over. This header needs POSIX: with
- * -std=c99 compile with -D_GNU_SOURCE too. */
+ * A DEVICE OF YOUR OWN takes the file's place by mz_log_over; one that outlives this machine, as a cluster does, by
+ * mz_log_take_over. This header needs POSIX: with -std=c99 compile with -D_GNU_SOURCE too. */
 #ifndef MAZZULPE_LOG_H
 #define MAZZULPE_LOG_H
 
@@ -260,6 +260,58 @@ static inline mz_code mz_log_checkpoint(mz_log *log, uint64_t kept) {
     if (__atomic_load_n(&log->failed, __ATOMIC_SEQ_CST)) return MZ_LOG_FAILED;
     mz_code c = mz_checkpoint(log->tc, kept);
     return c == MZ_OK ? mz_log_write(log, &until) : c;
+}
+
+/* ---- a log that outlives its machine
+ *
+ * Its device is reached from several machines, on one of which a transaction component writes at a time. Each that takes over has
+ * an epoch of its own, above all before, and the device compares it with each append and replace: one of an earlier epoch is
+ * refused, which is final as any failure is (MZ_LOG_FAILED): carry nothing, tell nobody, end. Whatever such a one carried before is
+ * in the log, so a data component needs no epoch. */
+
+/* All bytes of the device, which the caller frees, and the number that mz_session answers, made where there is none. From then on
+ * append, sync and replace of whoever read before fail. MZ_OK, or what mz_log_take_over is to answer. */
+typedef mz_code mz_read(void *context, uint8_t **bytes, size_t *count, uint64_t *session);
+
+/* Takes over from whoever wrote to the device before, behind the procedures of a transaction component in which nothing has happened:
+ * comes back from its bytes, as mz_log_open from a file's, and goes on in the same session. Then carry on as behind mz_log_open.
+ * An append is there whole or not at all, so an end that isn't whole is MZ_DAMAGED. Refused: as mz_file_back, and as `read` does;
+ * MZ_NO_SESSION; MZ_LOG_FAILED: also where another has taken over by now; MZ_MEMORY. Then the device is still yours to close. */
+static inline mz_code mz_log_take_over(mz_tc *tc, const mz_device *device, mz_read *read, mz_log **log, mz_log_found *found) {
+    mz_log_found was = {0, 0, 0};
+    uint8_t *bytes = NULL;
+    size_t count = 0;
+    uint64_t whole = 0, session = 0;
+    if (found) *found = was;
+    if (!tc || !device || !read || !log) return MZ_BAD_ARGUMENT;
+    *log = NULL;
+    mz_code c = read(device->context, &bytes, &count, &session);
+    if (c == MZ_OK) c = session ? mz_set_session(tc, session) : MZ_NO_SESSION;
+    if (c == MZ_OK) c = mz_file_back(tc, bytes, count, &whole, &was.place);
+    free(bytes);
+    if (c == MZ_OK && whole != count) c = MZ_DAMAGED;
+    if (c == MZ_OK) was.events = mz_log_length(tc);
+    if (found) *found = was;
+    if (c == MZ_OK && !(*log = mz_log_over(tc, device))) c = MZ_MEMORY;
+    if (c != MZ_OK) return c;
+    (*log)->length = whole;
+    c = mz_log_keep(*log);
+    if (c == MZ_OK) return c;
+    (*log)->device.close = NULL;
+    mz_log_close(*log);
+    *log = NULL;
+    return c;
+}
+
+/* Whether the device still takes ours: a sync, also where nothing is new. Call it now and then, without the lock of the transaction
+ * component: one that another has taken over from, and that has nothing to append, learns so by this alone. MZ_LOG_FAILED. */
+static inline mz_code mz_log_check(mz_log *log) {
+    if (!log) return MZ_BAD_ARGUMENT;
+    pthread_mutex_lock(&log->lock);
+    while (log->busy) pthread_cond_wait(&log->done, &log->lock);
+    mz_code c = __atomic_load_n(&log->failed, __ATOMIC_SEQ_CST) ? MZ_LOG_FAILED : mz_log_put_out(log, 1);
+    pthread_mutex_unlock(&log->lock);
+    return c;
 }
 
 /* ---- inside: a file of the system as a device */

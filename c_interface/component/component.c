@@ -1,4 +1,4 @@
-/* A data component in memory, which keeps the eight rules of docs/COMPONENTS.md. Compiled with WRONG it breaks
+/* A data component in memory, which keeps the nine rules of docs/COMPONENTS.md. Compiled with WRONG it breaks
  * one of them, so that `make try_component` can be seen to tell. */
 #include "component.h"
 #include <pthread.h>
@@ -27,7 +27,10 @@ enum {
     REVERSES_VALUE,          /* the bytes of a value */
     FULL_UNDOES_NOT,         /* where it is full it is silent to what undoes */
     SERVES_ANYONE,           /* a session begins whatever is served */
-    SERVES_AGAIN             /* a session that has ended begins again */
+    SERVES_AGAIN,            /* a session that has ended begins again */
+    BATCH_KEEPS_HALF,        /* SIGKILL behind a batch: all is done, and half of its numbers aren't kept */
+    BATCH_DOES_LATER,        /* the updates of a batch are done behind the next batch: the next one on a record comes first */
+    BATCH_MARKS_FIRST        /* a batch raises the mark and forgets, and its numbers are compared with the mark of before it */
 };
 
 enum { RECORDS = 256, NUMBERS = 1 << 18, SESSIONS = 1024 };
@@ -49,8 +52,10 @@ struct component {
     sessions sessions;
     uint64_t incarnation; /* as they */
     uint64_t at_checkpoint;
-    int full, waits;
-    mz_wire waiting;
+    int full;
+    mz_wire waiting[MZ_BATCH], batch[MZ_BATCH]; /* wires that are answered and not done; and the last batch */
+    size_t waits, batched;
+    int puts_off; /* updates wait */
 };
 
 component *component_open(const char *folder) {
@@ -123,11 +128,17 @@ static int is_full(const component *c, const mz_wire *w) {
     return c->full;
 }
 
+/* Does the first of those that wait. */
+static void do_waiting(component *c, size_t count) {
+    for (size_t i = 0; i < count; i++) operate(&c->now, &c->waiting[i], (uint8_t[MZ_VALUE]){0});
+    memmove(c->waiting, c->waiting + count, (c->waits - count) * sizeof *c->waiting);
+    c->waits -= count;
+}
+
 static mz_carried performed(component *c, const mz_wire *w, mz_reply *reply) {
     store *s = &c->now;
     answer *a = &s->answers[w->number % NUMBERS];
-    if (c->waits) operate(s, &c->waiting, (uint8_t[MZ_VALUE]){0});
-    c->waits = 0;
+    if (is_wrong(ANSWERS_FIRST)) do_waiting(c, c->waits);
     if (w->low_water > s->mark) s->mark = w->low_water;
     if (is_wrong(FORGETS_TOO_MUCH) && w->number > 3 && w->number - 3 > s->mark) s->answers[(w->number - 3) % NUMBERS].kept = 0;
     memset(reply, 0, sizeof *reply);
@@ -147,10 +158,9 @@ static mz_carried performed(component *c, const mz_wire *w, mz_reply *reply) {
     int has_none = is_full(c, w);
     if (has_none && is_wrong(FULL_ANSWERS)) reply->said = w->op == MZ_READ ? MZ_ABSENT : MZ_MISSING;
     if (has_none && !is_wrong(FULL_KEEPS_NOT)) return is_wrong(FULL_ANSWERS) ? MZ_REPLIED : MZ_LOST;
-    if (is_wrong(ANSWERS_FIRST) && w->op == MZ_UPDATE && row_of(s, &w->record, 0)) {
+    if ((is_wrong(ANSWERS_FIRST) || c->puts_off) && w->op == MZ_UPDATE && row_of(s, &w->record, 0) && c->waits < MZ_BATCH) {
         reply->said = by_now(s, w, reply->value);
-        c->waiting = *w;
-        c->waits = 1;
+        c->waiting[c->waits++] = *w;
     } else {
         reply->said = operate(s, w, reply->value);
     }
@@ -158,6 +168,40 @@ static mz_carried performed(component *c, const mz_wire *w, mz_reply *reply) {
     a->reply = *reply;
     memmove(s->last + 1, s->last, 3 * sizeof *s->last);
     s->last[0] = w->number;
+    return MZ_REPLIED;
+}
+
+/* Whether it lacks the room to perform this wire. */
+static int lacks_room(const component *c, const mz_wire *w) {
+    return is_full(c, w) && w->number > c->now.mark && !c->now.answers[w->number % NUMBERS].kept;
+}
+
+/* The numbers of a batch are compared with the mark of before it, and what is under its own is forgotten. */
+static mz_carried marked_first(component *c, const mz_wire *w, size_t count, mz_reply *replies) {
+    uint64_t before = c->now.mark, mark = before;
+    for (size_t i = 0; i < count; i++)
+        if (w[i].low_water > mark) mark = w[i].low_water;
+    for (size_t i = 0; i < count; i++) {
+        if (w[i].number <= mark) c->now.answers[w[i].number % NUMBERS].kept = 0;
+        performed(c, &w[i], &replies[i]);
+        c->now.mark = before;
+    }
+    c->now.mark = mark;
+    return MZ_REPLIED;
+}
+
+/* All of them, or none where one has no room. */
+static mz_carried performed_all(component *c, const mz_wire *w, size_t count, mz_reply *replies) {
+    size_t waited = c->waits;
+    for (size_t i = 0; i < count; i++)
+        if (lacks_room(c, &w[i])) return MZ_LOST;
+    if (is_wrong(BATCH_MARKS_FIRST)) return marked_first(c, w, count, replies);
+    c->puts_off = is_wrong(BATCH_DOES_LATER);
+    for (size_t i = 0; i < count; i++) performed(c, &w[i], &replies[i]);
+    c->puts_off = 0;
+    if (is_wrong(BATCH_DOES_LATER)) do_waiting(c, waited);
+    memcpy(c->batch, w, count * sizeof *w);
+    c->batched = count;
     return MZ_REPLIED;
 }
 
@@ -182,20 +226,24 @@ int component_begin(component *c, uint64_t session, uint64_t former) {
     return 1;
 }
 
-mz_carried component_carry(component *c, const mz_wire *wire, mz_reply *reply, mz_news *news) {
+mz_carried component_carry_many(component *c, const mz_wire *wires, size_t count, mz_reply *replies, mz_news *news) {
     mz_carried carried = MZ_RESTARTED;
     pthread_mutex_lock(&c->lock);
-    if (wire->session != served(&c->sessions) && !is_wrong(IGNORES_SESSION)) {
+    if (wires->session != served(&c->sessions) && !is_wrong(IGNORES_SESSION)) {
         carried = MZ_RETIRED;
-    } else if (wire->incarnation == c->incarnation || is_wrong(DOES_OTHER_INCARNATION)) {
-        carried = performed(c, wire, reply);
+    } else if (wires->incarnation == c->incarnation || is_wrong(DOES_OTHER_INCARNATION)) {
+        carried = count == 1 ? performed(c, wires, replies) : performed_all(c, wires, count, replies);
     } else {
         news->incarnation = c->incarnation;
         news->mark = c->now.mark;
-        if (is_wrong(HEARS_OTHER_INCARNATION) && wire->low_water > c->now.mark) c->now.mark = wire->low_water;
+        if (is_wrong(HEARS_OTHER_INCARNATION) && wires->low_water > c->now.mark) c->now.mark = wires->low_water;
     }
     pthread_mutex_unlock(&c->lock);
     return carried;
+}
+
+mz_carried component_carry(component *c, const mz_wire *wire, mz_reply *reply, mz_news *news) {
+    return component_carry_many(c, wire, 1, reply, news);
 }
 
 int component_checkpoint(component *c) {
@@ -207,6 +255,9 @@ int component_checkpoint(component *c) {
 int component_kill(component *c, int loses) {
     uint64_t mark = c->now.mark;
     c->waits = 0;
+    for (size_t i = c->batched / 2; is_wrong(BATCH_KEEPS_HALF) && i < c->batched; i++)
+        c->now.answers[c->batch[i].number % NUMBERS].kept = 0;
+    c->batched = 0;
     if (is_wrong(KEEPS_APART))
         for (int i = 0; i < 4; i++) c->now.answers[c->now.last[i] % NUMBERS].kept = 0;
     if (!loses) return 1;

@@ -4,7 +4,7 @@
 #ifndef MZ_COMPONENT_H
 #define MZ_COMPONENT_H
 
-#include "mazzulpe.h"
+#include "mazzulpe_batch.h"
 
 typedef struct component component;
 
@@ -22,6 +22,12 @@ int component_begin(component *c, uint64_t session, uint64_t former);
  * the wire is for another incarnation; MZ_RETIRED where it is of another session than the one that is served; MZ_LOST where
  * nothing comes back. */
 mz_carried component_carry(component *c, const mz_wire *wire, mz_reply *reply, mz_news *news);
+
+/* Where it takes batches; left out where it doesn't. Carries wires of one session and incarnation, at most MZ_BATCH, no number
+ * twice, no two on one record of which one writes: as these one after the other, all of them or none, from several threads at
+ * once, also beside component_carry. MZ_REPLIED, and replies[i] to wires[i]; else what component_carry would answer, of all. */
+mz_carried component_carry_many(component *c, const mz_wire *wires, size_t count, mz_reply *replies, mz_news *news)
+    __attribute__((weak));
 
 /* Makes all that it has done durable, with its low-water mark. Nothing is carried meanwhile. */
 int component_checkpoint(component *c);

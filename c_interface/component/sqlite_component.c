@@ -47,6 +47,13 @@ mz_carried component_carry(component *c, const mz_wire *wire, mz_reply *reply, m
     return carried;
 }
 
+mz_carried component_carry_many(component *c, const mz_wire *wires, size_t count, mz_reply *replies, mz_news *news) {
+    pthread_mutex_lock(&c->lock);
+    mz_carried carried = sqlite_dc_perform_many(c->dc, wires, count, replies, news);
+    pthread_mutex_unlock(&c->lock);
+    return carried;
+}
+
 int component_checkpoint(component *c) { return c->has_copy = sqlite_dc_copy(c->dc, c->copy); }
 
 static int put_back(component *c) {

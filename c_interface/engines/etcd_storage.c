@@ -15,6 +15,7 @@ static pid_t pids[DCS][MEMBERS], forgetting;
 static int first_port, restored[DCS], is_untold;
 static char at_folder[TEXT];
 static etcd_dc *components[DCS];
+mz_batched storage_components[DCS];
 
 static int port(int dc, int member, int is_peer) { return first_port + 2 * (dc * MEMBERS + member) + is_peer; }
 
@@ -35,20 +36,13 @@ int storage_open(const char *folder, uint64_t session) {
         text(members, "127.0.0.1:%d,127.0.0.1:%d,127.0.0.1:%d", port(d, 0, 0), port(d, 1, 0), port(d, 2, 0));
         components[d] = etcd_dc_open(members, session);
         if (!components[d]) return 0;
+        storage_components[d] = etcd_dc_batched(components[d]);
     }
     return 1;
 }
 
-mz_carried storage_carry(const mz_wire *wire, mz_reply *reply, mz_news *news) {
-    return etcd_dc_perform(components[wire->record.dc], wire, reply, news);
-}
-
-int storage_begin(uint16_t dc, uint64_t session, uint64_t former) { return etcd_dc_begin(components[dc], session, former); }
-
-void storage_fill(uint16_t dc, int full) {
-    (void)dc;
-    (void)full;
-}
+/* A quota that is spent, or none. */
+void storage_fill(uint16_t dc, int full) { etcd_dc_quota(components[dc], (uint64_t)full); }
 
 /* A member's snapshot has what it has heard of: a read that all agree on comes before it. */
 static int is_saved(uint16_t dc, const char *beside) {
@@ -61,6 +55,15 @@ static int is_saved(uint16_t dc, const char *beside) {
         if (process_runs(read, output, NULL) && process_runs(save, output, NULL)) return 1;
     }
     return 0;
+}
+
+/* A snapshot from before the session isn't put back any more. */
+int storage_begin(uint16_t dc, uint64_t session, uint64_t former) {
+    char to[TEXT], beside[TEXT];
+    if (!etcd_dc_begin(components[dc], session, former)) return 0;
+    text(to, "%s/%d.snapshot", at_folder, dc);
+    text(beside, "%s/%d.snapshot.new", at_folder, dc);
+    return access(to, R_OK) || (is_saved(dc, beside) && rename(beside, to) == 0);
 }
 
 /* A snapshot is good if the mark was heard by this incarnation before it was taken, and behind it the incarnation is the same

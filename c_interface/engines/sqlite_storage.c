@@ -8,29 +8,96 @@
 #include <sys/socket.h>
 #include <sys/un.h>
 
-enum { PATH = 90, CALLERS = 32 };
+enum { PATH = 90, CALLERS = 32, MOST = 256 };
 
-/* KEEP: storage_keep, with wire.low_water as the mark; BEGIN: storage_begin, with wire.number as the former session; FILL: of as
- * many pages as there are where wire.redo is 1. */
+/* PERFORM: a batch; KEEP: storage_keep, with the wire's low_water as the mark; BEGIN: storage_begin, with its number as the former
+ * session; FILL: of as many pages as there are where its redo is 1. */
 typedef enum { PERFORM, KEEP, BEGIN, FILL } wish;
-typedef struct { mz_wire wire; wish wish; } asked;
-typedef struct { mz_carried carried; int done; mz_reply reply; mz_news news; } answered;
+typedef struct { wish wish; size_t count; mz_wire wires[MOST]; } asked;
+typedef struct { mz_carried carried; int done; mz_news news; size_t count; mz_reply replies[MOST]; } answered;
 
 const unsigned servers_live = 200000;
 int servers_synced;
+mz_batched storage_components[DCS];
 
-static struct {
+typedef struct {
     char file[PATH], copy[PATH], socket[PATH], losses[PATH];
     pid_t pid;
     int is_full;
     places places;
     int callers[PLACES]; /* of the client; -1 where there is none */
-} servers[DCS];
+} server;
+
+static server servers[DCS];
 
 static int is_forgetful, is_untold;
 static uint64_t session;
 
 /* ---- the way to them */
+
+static int called(const server *s) {
+    struct sockaddr_un at = {.sun_family = AF_UNIX};
+    int fd = socket(AF_UNIX, SOCK_SEQPACKET | SOCK_CLOEXEC, 0);
+    memcpy(at.sun_path, s->socket, PATH);
+    if (fd >= 0 && connect(fd, (struct sockaddr *)&at, sizeof at) == 0) return fd;
+    close(fd);
+    return -1;
+}
+
+/* The bytes of a message, whose last part has as many entries as there are. */
+static size_t bytes_of(const asked *ask) { return offsetof(asked, wires) + ask->count * sizeof *ask->wires; }
+static size_t bytes_back(const answered *answer) { return offsetof(answered, replies) + answer->count * sizeof *answer->replies; }
+
+static void hang_up(server *s, int place) {
+    if (s->callers[place] >= 0) close(s->callers[place]);
+    s->callers[place] = -1;
+    place_give(&s->places, place);
+}
+
+/* The place by which the answer comes, or -1. */
+static int sent(void *to, wish wish, const mz_wire *wires, size_t count) {
+    static _Thread_local asked ask;
+    server *s = (server *)to;
+    int place = place_take(&s->places);
+    ask.wish = wish;
+    ask.count = count;
+    memcpy(ask.wires, wires, count * sizeof *wires);
+    if (s->callers[place] < 0) s->callers[place] = called(s);
+    if (s->callers[place] >= 0 && send(s->callers[place], &ask, bytes_of(&ask), MSG_NOSIGNAL) == (ssize_t)bytes_of(&ask)) return place;
+    hang_up(s, place);
+    return -1;
+}
+
+/* 0 where nobody answered. */
+static int is_answered(void *by, int place, answered *answer) {
+    server *s = (server *)by;
+    if (place < 0) return 0;
+    ssize_t bytes = recv(s->callers[place], answer, sizeof *answer, 0);
+    if (bytes < (ssize_t)offsetof(answered, replies) || bytes != (ssize_t)bytes_back(answer)) {
+        hang_up(s, place);
+        return 0;
+    }
+    place_give(&s->places, place);
+    return 1;
+}
+
+static int is_done(int dc, wish wish, mz_wire wire) {
+    static _Thread_local answered answer;
+    return is_answered(&servers[dc], sent(&servers[dc], wish, &wire, 1), &answer) && answer.done;
+}
+
+static int send_batch(void *to, const mz_wire *wires, size_t count) { return sent(to, PERFORM, wires, count); }
+
+/* Where nobody is served the session begins. */
+static mz_carried receive_batch(void *by, int place, const mz_wire *wires, size_t count, mz_reply *replies, mz_news *news) {
+    static _Thread_local answered answer;
+    if (!is_answered(by, place, &answer)) return MZ_LOST;
+    int begins = answer.carried == MZ_RETIRED && wires->session == session && is_done(wires->record.dc, BEGIN, (mz_wire){.session = session});
+    if (begins && !is_answered(by, send_batch(by, wires, count), &answer)) return MZ_LOST;
+    if (answer.carried == MZ_REPLIED) memcpy(replies, answer.replies, count * sizeof *replies);
+    *news = answer.news;
+    return answer.carried;
+}
 
 int storage_open(const char *folder, uint64_t wanted) {
     (void)folder;
@@ -38,52 +105,9 @@ int storage_open(const char *folder, uint64_t wanted) {
     for (int d = 0; d < DCS; d++) {
         places_new(&servers[d].places);
         for (int i = 0; i < PLACES; i++) servers[d].callers[i] = -1;
+        storage_components[d] = (mz_batched){&servers[d], send_batch, receive_batch, MOST};
     }
     return 1;
-}
-
-static int called(int dc) {
-    struct sockaddr_un at = {.sun_family = AF_UNIX};
-    int fd = socket(AF_UNIX, SOCK_SEQPACKET | SOCK_CLOEXEC, 0);
-    memcpy(at.sun_path, servers[dc].socket, PATH);
-    if (fd >= 0 && connect(fd, (struct sockaddr *)&at, sizeof at) == 0) return fd;
-    close(fd);
-    return -1;
-}
-
-/* 0 where nobody answered. */
-static int is_answered(int dc, const asked *ask, answered *answer) {
-    int place = place_take(&servers[dc].places), *fd = &servers[dc].callers[place];
-    if (*fd < 0) *fd = called(dc);
-    int is = *fd >= 0 && send(*fd, ask, sizeof *ask, MSG_NOSIGNAL) == sizeof *ask && recv(*fd, answer, sizeof *answer, 0) == sizeof *answer;
-    if (!is && *fd >= 0) {
-        close(*fd);
-        *fd = -1;
-    }
-    place_give(&servers[dc].places, place);
-    return is;
-}
-
-static int is_done(int dc, wish wish, mz_wire wire) {
-    const asked ask = {.wire = wire, .wish = wish};
-    answered answer;
-    return is_answered(dc, &ask, &answer) && answer.done;
-}
-
-static mz_carried carried(const mz_wire *wire, mz_reply *reply, mz_news *news) {
-    const asked ask = {.wire = *wire};
-    answered answer;
-    if (!is_answered(wire->record.dc, &ask, &answer)) return MZ_LOST;
-    *reply = answer.reply;
-    *news = answer.news;
-    return answer.carried;
-}
-
-/* Where nobody is served the session begins. */
-mz_carried storage_carry(const mz_wire *wire, mz_reply *reply, mz_news *news) {
-    mz_carried c = carried(wire, reply, news);
-    if (c != MZ_RETIRED || wire->session != session) return c;
-    return is_done(wire->record.dc, BEGIN, (mz_wire){.session = session}) ? carried(wire, reply, news) : c;
 }
 
 int storage_begin(uint16_t dc, uint64_t wanted, uint64_t former) {
@@ -150,15 +174,17 @@ static int listening(int d) {
 
 /* Answers a caller; 0 where it is gone. */
 static int served(sqlite_dc *dc, int d, int fd, uint64_t incarnation) {
-    asked ask;
-    answered answer;
-    memset(&answer, 0, sizeof answer);
-    if (recv(fd, &ask, sizeof ask, 0) != sizeof ask) return 0;
-    if (ask.wish == PERFORM) answer.carried = sqlite_dc_perform(dc, &ask.wire, &answer.reply, &answer.news);
-    if (ask.wish == KEEP) answer.done = is_kept(dc, d, &ask.wire, incarnation);
-    if (ask.wish == BEGIN) answer.done = is_begun(dc, d, &ask.wire);
-    if (ask.wish == FILL) sqlite_dc_limit(dc, ask.wire.redo ? sqlite_dc_pages(dc) : 0);
-    return send(fd, &answer, sizeof answer, MSG_NOSIGNAL) == sizeof answer;
+    static asked ask;
+    static answered answer;
+    ssize_t bytes = recv(fd, &ask, sizeof ask, 0);
+    if (bytes < (ssize_t)offsetof(asked, wires) || bytes != (ssize_t)bytes_of(&ask)) return 0;
+    answer = (answered){.carried = MZ_LOST};
+    if (ask.wish == PERFORM) answer.carried = sqlite_dc_perform_many(dc, ask.wires, ask.count, answer.replies, &answer.news);
+    if (ask.wish == KEEP) answer.done = is_kept(dc, d, ask.wires, incarnation);
+    if (ask.wish == BEGIN) answer.done = is_begun(dc, d, ask.wires);
+    if (ask.wish == FILL) sqlite_dc_limit(dc, ask.wires->redo ? sqlite_dc_pages(dc) : 0);
+    if (answer.carried == MZ_REPLIED) answer.count = ask.count;
+    return send(fd, &answer, bytes_back(&answer), MSG_NOSIGNAL) == (ssize_t)bytes_back(&answer);
 }
 
 static void serve(int d) {

@@ -3,7 +3,7 @@
 #ifndef STORAGE_H
 #define STORAGE_H
 
-#include "mazzulpe.h"
+#include "mazzulpe_batch.h"
 
 enum { DCS = 2, SESSION = 1 }; /* SESSION: of whoever has no log */
 
@@ -13,8 +13,23 @@ enum { DCS = 2, SESSION = 1 }; /* SESSION: of whoever has no log */
  * memory. The servers may be down. */
 int storage_open(const char *folder, uint64_t session);
 
-/* Carries a wire, from several threads at once. */
-mz_carried storage_carry(const mz_wire *wire, mz_reply *reply, mz_news *news);
+/* The way to each data component, once storage_open was called, for several threads at once. */
+extern mz_batched storage_components[DCS];
+
+/* Carries a wire. */
+static inline mz_carried storage_carry(const mz_wire *wire, mz_reply *reply, mz_news *news) {
+    return mz_carry_batch(&storage_components[wire->record.dc], wire, 1, reply, news);
+}
+
+/* An mz_carry_many, without a context. */
+static inline void storage_carry_many(void *context, const mz_wire *wires, size_t count, mz_carried *carried, mz_reply *replies,
+                                      mz_news *news) {
+    static _Thread_local mz_batches room;
+    (void)context;
+    room.components = storage_components;
+    room.count = DCS;
+    mz_carry_batches(&room, wires, count, carried, replies, news);
+}
 
 /* Begins a session at a data component, as component_begin of component.h. */
 int storage_begin(uint16_t dc, uint64_t session, uint64_t former);

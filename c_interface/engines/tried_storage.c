@@ -49,14 +49,17 @@ void component_close(component *c) {
     free(c);
 }
 
-mz_carried component_carry(component *c, const mz_wire *wire, mz_reply *reply, mz_news *news) {
-    uint64_t known = __atomic_load_n(&c->incarnation, __ATOMIC_SEQ_CST);
-    while (wire->incarnation > known &&
-           !__atomic_compare_exchange_n(&c->incarnation, &known, wire->incarnation, 0, __ATOMIC_SEQ_CST, __ATOMIC_SEQ_CST))
+mz_carried component_carry_many(component *c, const mz_wire *wires, size_t count, mz_reply *replies, mz_news *news) {
+    uint64_t known = __atomic_load_n(&c->incarnation, __ATOMIC_SEQ_CST), wanted = wires->incarnation;
+    while (wanted > known && !__atomic_compare_exchange_n(&c->incarnation, &known, wanted, 0, __ATOMIC_SEQ_CST, __ATOMIC_SEQ_CST))
         continue;
-    mz_carried carried = storage_carry(wire, reply, news);
+    mz_carried carried = mz_carry_batch(storage_components, wires, count, replies, news);
     __atomic_add_fetch(&c->answered, carried == MZ_REPLIED, __ATOMIC_SEQ_CST);
     return carried;
+}
+
+mz_carried component_carry(component *c, const mz_wire *wire, mz_reply *reply, mz_news *news) {
+    return component_carry_many(c, wire, 1, reply, news);
 }
 
 int component_checkpoint(component *c) { return storage_keep(0, c->incarnation, 0); }

@@ -90,10 +90,9 @@ static int raised(sqlite_dc *dc, uint64_t mark) {
     return is_done(dc, RAISE) && is_done(dc, FORGET);
 }
 
-/* The wire, within a SQLite transaction: the mark rises; a number at or under it is old; one that was
- * performed gets its answer again; else the operation is performed, and kept with its answer. */
+/* A wire, within a SQLite transaction: a number at or under the mark is old; one that was performed gets its answer again; else
+ * the operation is performed, and kept with its answer. */
 static int performed(sqlite_dc *dc, uint64_t mark, const mz_wire *w, mz_reply *r) {
-    if (w->low_water > mark && !raised(dc, mark = w->low_water)) return 0;
     r->number = w->number;
     r->incarnation = w->incarnation;
     memset(r->value, 0, MZ_VALUE);
@@ -116,14 +115,25 @@ static int performed(sqlite_dc *dc, uint64_t mark, const mz_wire *w, mz_reply *r
     return is_done(dc, KEEP);
 }
 
-static mz_carried tried(sqlite_dc *dc, const mz_wire *wire, mz_reply *reply, mz_news *news) {
+/* The wires, within a SQLite transaction, behind the greatest of their marks. */
+static int all_performed(sqlite_dc *dc, uint64_t mark, const mz_wire *w, size_t count, mz_reply *r) {
+    uint64_t before = mark;
+    for (size_t i = 0; i < count; i++)
+        if (w[i].low_water > mark) mark = w[i].low_water;
+    if (mark > before && !raised(dc, mark)) return 0;
+    for (size_t i = 0; i < count; i++)
+        if (!performed(dc, mark, &w[i], &r[i])) return 0;
+    return 1;
+}
+
+static mz_carried tried(sqlite_dc *dc, const mz_wire *wires, size_t count, mz_reply *replies, mz_news *news) {
     uint64_t session = 0;
     dc->is_full = 0;
     if (!is_done(dc, BEGIN)) return MZ_LOST;
     int known = standing(dc, news, &session);
-    mz_carried carried = !known || session != wire->session ? MZ_RETIRED
-                         : news->incarnation != wire->incarnation ? MZ_RESTARTED : MZ_LOST;
-    if (carried == MZ_LOST && performed(dc, news->mark, wire, reply) && is_done(dc, COMMIT)) return MZ_REPLIED;
+    mz_carried carried = !known || session != wires->session ? MZ_RETIRED
+                         : news->incarnation != wires->incarnation ? MZ_RESTARTED : MZ_LOST;
+    if (carried == MZ_LOST && all_performed(dc, news->mark, wires, count, replies) && is_done(dc, COMMIT)) return MZ_REPLIED;
     dc->is_full = sqlite3_errcode(dc->db) == SQLITE_FULL;
     is_done(dc, ROLLBACK);
     return carried;
@@ -150,15 +160,27 @@ static void limit_to(sqlite_dc *dc, uint64_t pages) {
     dc->limited = pages;
 }
 
-mz_carried sqlite_dc_perform(sqlite_dc *dc, const mz_wire *wire, mz_reply *reply, mz_news *news) {
-    int is_needed = wire->undoes || wire->redo;
+mz_carried sqlite_dc_perform_many(sqlite_dc *dc, const mz_wire *wires, size_t count, mz_reply *replies, mz_news *news) {
+    int is_needed = 1;
+    for (size_t i = 0; i < count; i++) is_needed &= mz_finds_room(&wires[i]);
     if (!is_needed && !has_reserve(dc)) return MZ_LOST;
     limit_to(dc, is_needed && dc->limit ? dc->limit + RESERVE_PAGES : dc->limit);
-    mz_carried carried = tried(dc, wire, reply, news);
+    mz_carried carried = tried(dc, wires, count, replies, news);
     if (!is_needed || carried != MZ_LOST || !dc->is_full) return carried;
     give_reserve(dc);
-    return tried(dc, wire, reply, news);
+    return tried(dc, wires, count, replies, news);
 }
+
+mz_carried sqlite_dc_perform(sqlite_dc *dc, const mz_wire *wire, mz_reply *reply, mz_news *news) {
+    return sqlite_dc_perform_many(dc, wire, 1, reply, news);
+}
+
+static mz_carried receive(void *dc, int sent, const mz_wire *wires, size_t count, mz_reply *replies, mz_news *news) {
+    (void)sent;
+    return sqlite_dc_perform_many((sqlite_dc *)dc, wires, count, replies, news);
+}
+
+mz_batched sqlite_dc_batched(sqlite_dc *dc) { return (mz_batched){dc, NULL, receive, MZ_BATCH}; }
 
 void sqlite_dc_limit(sqlite_dc *dc, uint64_t pages) { dc->limit = pages; }
 

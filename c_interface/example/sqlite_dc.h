@@ -7,7 +7,7 @@
 #ifndef SQLITE_DC_H
 #define SQLITE_DC_H
 
-#include "mazzulpe.h"
+#include "mazzulpe_batch.h"
 #include <sqlite3.h>
 
 typedef struct sqlite_dc sqlite_dc;
@@ -43,6 +43,12 @@ int sqlite_dc_put_back(sqlite_dc *dc, uint64_t incarnation, mz_news *news);
  * of a session that isn't served: nothing is done; MZ_LOST where SQLite failed, as for want of room: nothing was done, and
  * the wire may be sent again. */
 mz_carried sqlite_dc_perform(sqlite_dc *dc, const mz_wire *wire, mz_reply *reply, mz_news *news);
+
+/* A batch (mazzulpe_batch.h), in one SQLite transaction: what sqlite_dc_perform answers, of all. MZ_REPLIED: replies[i] to wires[i]. */
+mz_carried sqlite_dc_perform_many(sqlite_dc *dc, const mz_wire *wires, size_t count, mz_reply *replies, mz_news *news);
+
+/* For mz_carry_batches. */
+mz_batched sqlite_dc_batched(sqlite_dc *dc);
 
 /* A copy of the file as it stands. 0 where SQLite failed. */
 int sqlite_dc_copy(sqlite_dc *dc, const char *path);

@@ -1,9 +1,10 @@
 //! A bank with a log in a file: four threads put money in, it dies in the middle of a call, and the next life comes back from
-//! the file, torn as it is, over the storage that outlived it. It says what it saw.
+//! the file, torn as it is, over the storage that outlived it. Then one takes over from another over a device that compares
+//! epochs. It says what it saw.
 #[allow(dead_code)]
 mod mazzulpe;
 
-use mazzulpe::log::{Device, Log, LogError};
+use mazzulpe::log::{Device, Log, LogError, SharedDevice};
 use mazzulpe::{
     BAD_ARGUMENT, Carried, DAMAGED, DEPOSED, DIVERGED, Dc, LOG_FAILED, LOG_IN_USE, NO_SESSION, Next, Outcome, Ran, Refusal,
     SESSION_STAYS, Said, Tc, Wire,
@@ -46,6 +47,11 @@ struct Storage {
 }
 
 impl Storage {
+    fn new() -> Result<Storage, Failed> {
+        let dc = || Dc::new(100, 10000).map(Mutex::new).map_err(told);
+        Ok(Storage { dcs: [dc()?, dc()?], sessions: Mutex::new(Vec::new()) })
+    }
+
     fn carry(&self, wire: &Wire) -> Carried {
         let mut sessions = self.sessions.lock().unwrap();
         if !sessions.contains(&wire.session) {
@@ -202,6 +208,77 @@ fn fails(storage: &Storage) -> Result<(), Failed> {
     Ok(())
 }
 
+/// What several writers share: the bytes, and the epoch of the last one that took over.
+#[derive(Default)]
+struct Home {
+    bytes: Vec<u8>,
+    epoch: u64,
+}
+
+struct Writer<'a> {
+    home: &'a Mutex<Home>,
+    epoch: AtomicU64,
+}
+
+impl<'a> Writer<'a> {
+    fn new(home: &'a Mutex<Home>) -> Writer<'a> {
+        Writer { home, epoch: AtomicU64::new(0) }
+    }
+
+    fn changes(&self, change: impl FnOnce(&mut Vec<u8>)) -> io::Result<()> {
+        let mut home = self.home.lock().unwrap();
+        if home.epoch != self.epoch.load(Relaxed) {
+            return Err(io::Error::other("another epoch"));
+        }
+        change(&mut home.bytes);
+        Ok(())
+    }
+}
+
+impl Device for Writer<'_> {
+    fn append(&self, bytes: &[u8]) -> io::Result<()> {
+        self.changes(|all| all.extend_from_slice(bytes))
+    }
+
+    fn sync(&self) -> io::Result<()> {
+        self.changes(|_| ())
+    }
+
+    fn replace(&self, bytes: &[u8]) -> io::Result<()> {
+        self.changes(|all| *all = bytes.to_vec())
+    }
+}
+
+impl SharedDevice for Writer<'_> {
+    fn read(&self) -> Result<(Vec<u8>, u64), LogError> {
+        let mut home = self.home.lock().unwrap();
+        home.epoch += 1;
+        self.epoch.store(home.epoch, Relaxed);
+        Ok((home.bytes.clone(), 7))
+    }
+}
+
+fn succeeds() -> Result<(), Failed> {
+    let (home, storage) = (Mutex::new(Home::default()), Storage::new()?);
+    let (mut former, mut now) = (started()?, started()?);
+    let (former_log, found) = Log::take_over(&mut former, Writer::new(&home))?;
+    println!("taken over: {found:?}, session {}", former.session());
+    let former = Mutex::new(former);
+    deposit(&former, &former_log, &storage, 20)?;
+    former_log.check()?;
+    let (now_log, found) = Log::take_over(&mut now, Writer::new(&home))?;
+    println!("taken over: {found:?}, session {}", now.session());
+    let length = home.lock().unwrap().bytes.len();
+    let check = former_log.check().is_err();
+    let call = deposit(&former, &former_log, &storage, 21).is_err();
+    println!("the former one: {check}, {call}, {}", home.lock().unwrap().bytes.len() == length);
+    println!("the one of now: {:?}", deposit(&Mutex::new(now), &now_log, &storage, 22)?);
+    home.lock().unwrap().bytes.pop();
+    let torn = Log::take_over(&mut started()?, Writer::new(&home)).map(|_| ());
+    println!("an end that isn't whole: {}", matches!(torn, Err(LogError::Refused(DAMAGED, 0))));
+    Ok(())
+}
+
 /// A data component that says what can't be, and what undoes an abort: `touch` reads (2), updates (3), and undoes (4).
 fn what_cannot_be() -> Result<(), Failed> {
     let (mut tc, mut dc) = (started()?, Dc::new(100, 1000).map_err(told)?);
@@ -242,9 +319,9 @@ fn main() -> Result<(), Failed> {
     let folder = std::env::temp_dir().join(format!("mazzulpe-rust-{}", std::process::id()));
     fs::create_dir(&folder)?;
     let path = folder.join("bank.log");
-    let dc = || Dc::new(100, 10000).map(Mutex::new).map_err(told);
-    let storage = Storage { dcs: [dc()?, dc()?], sessions: Mutex::new(Vec::new()) };
+    let storage = Storage::new()?;
     let seen = lives(&path, &storage).and_then(|()| comes_back(&path, &storage)).and_then(|()| fails(&storage));
+    succeeds()?;
     what_cannot_be()?;
     fs::remove_dir_all(&folder)?;
     seen

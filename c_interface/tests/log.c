@@ -1,6 +1,6 @@
 /* A bank over mazzulpe_log.h. Its file is cut at one length in STEP (97) and changed in one byte in STEP, and opened again:
  * what was synced is there, or the file is refused and left as it was. It begins anew in the midst. Then what can't be
- * opened, devices that fail, and threads that share syncs.
+ * opened, devices that fail, one that others take over, and threads that share syncs.
  *
  *     test_log [STEP] */
 #define _GNU_SOURCE
@@ -371,6 +371,145 @@ static void gathered(void) {
     SEEN(d.calls == 6 && d.syncs == 2 && d.kept == until[0]);
 }
 
+/* ---- a device that others take over: each writer has an epoch, and only that of the last one is taken */
+
+enum { HOME = 1 << 16 };
+
+static struct { uint8_t bytes[HOME]; size_t count; uint64_t epoch, session; mz_code says; long closed; } home;
+
+typedef struct { uint64_t epoch; long checks; } writer;
+
+static int refuses(const writer *w) { return w->epoch != home.epoch; }
+
+static int append_home(void *context, const void *bytes, size_t count) {
+    if (refuses((writer *)context) || home.count + count > HOME) return 1;
+    memcpy(home.bytes + home.count, bytes, count);
+    home.count += count;
+    return 0;
+}
+
+static int sync_home(void *context) {
+    ((writer *)context)->checks++;
+    return refuses((writer *)context);
+}
+
+static int replace_home(void *context, const void *bytes, size_t count) {
+    if (refuses((writer *)context)) return 1;
+    home.count = 0;
+    return append_home(context, bytes, count);
+}
+
+static void close_home(void *context) {
+    (void)context;
+    home.closed++;
+}
+
+static mz_code read_home(void *context, uint8_t **bytes, size_t *count, uint64_t *session) {
+    ((writer *)context)->epoch = ++home.epoch;
+    if (home.says != MZ_OK) return home.says;
+    if (home.count && !(*bytes = (uint8_t *)malloc(home.count))) exit(2);
+    if (home.count) memcpy(*bytes, home.bytes, home.count);
+    *count = home.count;
+    *session = home.session;
+    return MZ_OK;
+}
+
+static mz_code taken_over(bank *b, writer *w, mz_log_found *found) {
+    const mz_device device = {w, append_home, sync_home, replace_home, close_home};
+    b->tc = started();
+    return mz_log_take_over(b->tc, &device, read_home, &b->log, found);
+}
+
+/* Not by what the device says, nor from bytes that aren't whole. */
+static void not_taken_over(mz_code says, mz_code why) {
+    writer w = {0, 0};
+    bank b;
+    home.says = says;
+    SEEN(taken_over(&b, &w, NULL) == why && !b.log && home.closed == 0);
+    home.says = MZ_OK;
+    mz_tc_free(b.tc);
+}
+
+static void closed_one(bank *b) {
+    mz_log_close(b->log);
+    mz_tc_free(b->tc);
+}
+
+/* The former one carries its last wire once more, meets the epoch, and leaves the log as it is. */
+static void superseded(bank *former, bank *now, const mz_wire *last) {
+    const size_t count = home.count;
+    uint64_t until, procedure = 0, txn = 0;
+    const uint64_t args[] = {7, 1};
+    mz_reply repeated = {.said = MZ_ABSENT};
+    SEEN(mz_dc_perform(former->dcs[last->record.dc], last, &repeated) == MZ_OK);
+    SEEN(repeated.said == MZ_OLD || repeated.said == MZ_DONE || repeated.said == MZ_DONE_WAS);
+    SEEN(mz_find(former->tc, "deposit_here", &procedure) == MZ_OK);
+    SEEN(mz_admit(former->tc, procedure, args, 2, &txn, NULL, NULL) == MZ_OK && mz_log_write(former->log, &until) == MZ_OK);
+    SEEN(mz_log_sync(former->log, until) == MZ_LOG_FAILED && mz_log_write(former->log, &until) == MZ_LOG_FAILED);
+    SEEN(mz_log_check(former->log) == MZ_LOG_FAILED && home.count == count);
+    SEEN(mz_log_check(now->log) == MZ_OK && called_next(now, 3) && home.count > count);
+}
+
+static mz_wire last_carried;
+
+static mz_carried carry_and_keep(void *context, const mz_wire *wire, mz_reply *reply, mz_news *news) {
+    last_carried = *wire;
+    return carry(context, wire, reply, news);
+}
+
+static void succession(void) {
+    writer first = {0, 0}, second = {0, 0}, idle = {0, 0};
+    bank a, b, c;
+    mz_log_found found;
+    mz_asked asked;
+    mz_receipt receipt;
+    mz_next stopped;
+    mz_code made;
+    uint64_t procedure = 0, txn = 0;
+    memset(&a, 0, sizeof a);
+    memset(&b, 0, sizeof b);
+    memset(&c, 0, sizeof c);
+    home.session = 5;
+    for (int d = 0; d < DCS; d++) a.dcs[d] = b.dcs[d] = c.dcs[d] = mz_dc_new(100, 1000, &made);
+    SEEN(taken_over(&a, &first, &found) == MZ_OK && found.events == 0 && mz_session(a.tc) == 5);
+    SEEN(called_next(&a, 0) && called_next(&a, 3));
+    long checks = first.checks;
+    SEEN(mz_log_check(a.log) == MZ_OK && first.checks == checks + 1);
+    SEEN(mz_find(a.tc, "deposit_here", &procedure) == MZ_OK && mz_admit(a.tc, procedure, (const uint64_t[]){1, 1}, 2, &txn, NULL, NULL) == MZ_OK);
+    SEEN(mz_run(a.tc, txn, carry_and_keep, &a, TRIES, &receipt, &stopped) == MZ_OK && stopped == MZ_OVER);
+    /* (the answer isn't in the log: the next one asks for it) */
+    SEEN(taken_over(&b, &second, &found) == MZ_OK && mz_session(b.tc) == 5 && mz_open_count(b.tc) == 1);
+    SEEN(found.events < mz_log_length(a.tc) && found.events == mz_log_length(b.tc));
+    SEEN(mz_retake(b.tc, txn, &asked) == MZ_OK);
+    SEEN(mz_run(b.tc, txn, carry, &b, TRIES, &receipt, &stopped) == MZ_OK && stopped == MZ_OVER && kept(&b) == MZ_OK);
+    superseded(&a, &b, &last_carried);
+    mz_dc_hear_mark(b.dcs[0], 0, mz_low_water(b.tc));
+    SEEN(mz_log_checkpoint(b.log, mz_low_water(b.tc)) == MZ_OK && mz_log_length(b.tc) == 1);
+    SEEN(taken_over(&c, &idle, &found) == MZ_OK && found.events == 1 && mz_log_check(b.log) == MZ_LOG_FAILED && called_next(&c, 4));
+    closed_one(&a);
+    closed_one(&b);
+    closed_one(&c);
+    SEEN(home.closed == 3);
+    for (int d = 0; d < DCS; d++) mz_dc_free(a.dcs[d]);
+}
+
+static void no_succession(void) {
+    home.closed = 0;
+    SEEN(mz_log_check(NULL) == MZ_BAD_ARGUMENT && mz_log_take_over(NULL, NULL, read_home, NULL, NULL) == MZ_BAD_ARGUMENT);
+    not_taken_over(MZ_LOG_FAILED, MZ_LOG_FAILED);
+    not_taken_over(MZ_DAMAGED, MZ_DAMAGED);
+    home.session = 0;
+    not_taken_over(MZ_OK, MZ_NO_SESSION);
+    home.session = 5;
+    home.count--;
+    not_taken_over(MZ_OK, MZ_DAMAGED);
+    home.count++;
+    home.bytes[home.count / 2] ^= 1;
+    not_taken_over(MZ_OK, MZ_DAMAGED);
+    memset(home.bytes, 'x', home.count);
+    not_taken_over(MZ_OK, MZ_NO_LOG);
+}
+
 /* ---- threads that share syncs: each deposit waits for three, of SYNC microseconds */
 
 typedef struct { bank *bank; uint64_t account; } worker;
@@ -423,6 +562,8 @@ int main(int count, char **words) {
     not_opened(&whole);
     device_that_fails();
     gathered();
+    succession();
+    no_succession();
     shared_syncs();
     printf("files cut and changed, one place in %zu\n", step);
     fflush(stdout);

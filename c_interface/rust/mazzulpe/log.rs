@@ -6,7 +6,7 @@
 //! log.sync(until)?;                 // without it: before a wire is carried, and before anyone is told; puts out all at once
 //! ```
 
-use super::{LOG_FAILED, LOG_IN_USE, MEMORY, NO_LOG, NO_SESSION, Refusal, Tc};
+use super::{DAMAGED, LOG_FAILED, LOG_IN_USE, MEMORY, NO_LOG, NO_SESSION, Refusal, Tc};
 use std::ffi::OsString;
 use std::fs::{File, OpenOptions, TryLockError, rename};
 use std::io::{self, Read, Write};
@@ -26,6 +26,14 @@ pub trait Device {
     fn sync(&self) -> io::Result<()>;
     /// These bytes take the place of all others, for good: a crash finds the former or these.
     fn replace(&self, bytes: &[u8]) -> io::Result<()>;
+}
+
+/// A device that outlives its machine, reached from several: it compares the epoch of whoever took over with each append and replace,
+/// and refuses those of an earlier one.
+pub trait SharedDevice: Device {
+    /// All its bytes, and the number that [`Tc::session`] answers, made where there is none. From then on `append`, `sync` and `replace`
+    /// of whoever read before fail.
+    fn read(&self) -> Result<(Vec<u8>, u64), LogError>;
 }
 
 #[derive(Debug)]
@@ -163,11 +171,13 @@ impl<D: Device> Log<D> {
     fn reach(&self, until: u64, syncs: bool) -> Result<(), LogError> {
         let has_reached = |it: &Progress| until <= if syncs { it.synced } else { it.put };
         let wait = |it: &mut Progress| it.busy && !has_reached(it) && !self.failed.load(SeqCst);
-        let mut progress = self.done.wait_while(self.locked(), wait).expect("nobody panics under it");
+        let progress = self.done.wait_while(self.locked(), wait).expect("nobody panics under it");
         self.is_whole()?;
-        if has_reached(&progress) {
-            return Ok(());
-        }
+        if has_reached(&progress) { Ok(()) } else { self.put_out(progress, syncs) }
+    }
+
+    /// Puts all that is gathered into the device, which is nobody's, and syncs it where that is wanted.
+    fn put_out(&self, mut progress: MutexGuard<'_, Progress>, syncs: bool) -> Result<(), LogError> {
         progress.busy = true;
         let (bytes, all) = (std::mem::take(&mut progress.gathered), progress.written);
         drop(progress);
@@ -187,6 +197,14 @@ impl<D: Device> Log<D> {
         self.reach(until, false)
     }
 
+    /// Whether the device still takes ours: a sync, also where nothing is new. One that another has taken over from, and that has
+    /// nothing to append, learns so by this alone.
+    pub fn check(&self) -> Result<(), LogError> {
+        let progress = self.done.wait_while(self.locked(), |it| it.busy).expect("nobody panics under it");
+        self.is_whole()?;
+        self.put_out(progress, true)
+    }
+
     /// Writes what has happened and makes it stay.
     pub fn keep(&self, tc: &mut Tc) -> Result<(), LogError> {
         let until = self.write(tc)?;
@@ -198,6 +216,26 @@ impl<D: Device> Log<D> {
         self.is_whole()?;
         tc.checkpoint(kept)?;
         self.write(tc).map(|_| ())
+    }
+}
+
+impl<D: SharedDevice> Log<D> {
+    /// Takes over from whoever wrote to the device before, behind the procedures of a transaction component in which nothing has
+    /// happened: comes back from its bytes, and goes on in the same session.
+    pub fn take_over(tc: &mut Tc, device: D) -> Result<(Log<D>, Found), LogError> {
+        let (bytes, session) = device.read()?;
+        if session == 0 {
+            return Err(NO_SESSION.into());
+        }
+        tc.set_session(session)?;
+        let whole = tc.file_back(&bytes).map_err(|(refusal, place)| LogError::Refused(refusal, place))?;
+        if whole != bytes.len() as u64 {
+            return Err(DAMAGED.into());
+        }
+        let found = Found { events: tc.log_length(), dropped: 0 };
+        let log = Log::over(tc, device)?;
+        log.keep(tc)?;
+        Ok((log, found))
     }
 }
 
