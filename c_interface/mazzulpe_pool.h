@@ -227,6 +227,7 @@ static inline void mz_pool_close(mz_pool *pool, unsigned milliseconds) {
     pthread_mutex_unlock(&pool->queue_lock);
     mz_pool_fail(pool, MZ_NOT_OVER);
     for (size_t i = 0; i < pool->started; i++) pthread_join(pool->lanes[i]->thread, NULL);
+    if (pool->log && pool->failed == MZ_NOT_OVER && mz_log_write(pool->log, &until) == MZ_OK) (void)mz_pool_stays(pool, until);
     for (size_t i = 0; i < pool->lane_count; i++) {
         pthread_cond_destroy(&pool->lanes[i]->wanted);
         free(pool->lanes[i]);

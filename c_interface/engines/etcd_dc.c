@@ -125,6 +125,7 @@ static int is_known(etcd_dc *dc, connection *c, uint64_t known) {
     if (c->to.fd < 0) c->is_known = 0;
     for (int tries = 0; !c->is_known && tries < 3; tries++) {
         standing s;
+        dc->is_retired = 0;
         if (!is_read(c, &s)) return 0;
         dc->is_retired = s.is_there ? s.session != dc->session : !dc->session;
         if (dc->is_retired) return 0;
