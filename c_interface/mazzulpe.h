@@ -427,8 +427,8 @@ static inline mz_code mz_put_call(mz_frame *f, uint64_t procedure, const uint64_
 }
 
 /* These bytes in place of all that was handed in. */
-static inline mz_code mz_hand_in_bytes(mz_frame *f, const void *from, size_t bytes) {
-    mz_code c = mz_make(f, MZ_CALL_CLEAR);
+static inline mz_code mz_hand_in_more(mz_frame *f, const void *from, size_t bytes) {
+    mz_code c = MZ_OK;
     const uint8_t *at = (const uint8_t *)from;
     for (; c == MZ_OK && bytes; at += f->count, bytes -= f->count) {
         f->count = bytes < 256 ? (uint32_t)bytes : 256;
@@ -436,6 +436,11 @@ static inline mz_code mz_hand_in_bytes(mz_frame *f, const void *from, size_t byt
         c = mz_make(f, MZ_CALL_BYTES);
     }
     return c;
+}
+
+static inline mz_code mz_hand_in_bytes(mz_frame *f, const void *from, size_t bytes) {
+    mz_code c = mz_make(f, MZ_CALL_CLEAR);
+    return c == MZ_OK ? mz_hand_in_more(f, from, bytes) : c;
 }
 
 static inline mz_code mz_hand_in(mz_frame *f, const void *code, size_t bytes, const mz_slot *slots, size_t count) {
@@ -1099,6 +1104,20 @@ static inline mz_code mz_recover(mz_tc *tc, const void *rows, size_t count, cons
     return mz_leave(f, c);
 }
 
+/* ---- inside */
+
+/* Comes back from a file's bytes, which are handed in unless `c` says why not. */
+static inline mz_code mz_back_from(mz_frame *f, mz_code c, uint64_t *whole, uint64_t *place) {
+    f->place = 0;
+    if (c == MZ_OK) c = mz_make(f, MZ_CALL_FILE_BACK);
+    if (c == MZ_OK) *whole = f->word;
+    else if (place) *place = f->place;
+    if (c == MZ_OK) mz_count_waiting(f);
+    else mz_make(f, MZ_CALL_CLEAR);
+    if (c == MZ_OK && mz_make(f, MZ_CALL_SESSION) == MZ_OK) mz_head_of(f)->session = f->word;
+    return c;
+}
+
 /* ---- its log as the bytes of a file */
 
 /* The file's format is the one of `procd run --log` (docs/FORMATS.md), which `procd log` reads. mazzulpe_log.h writes
@@ -1140,15 +1159,8 @@ static inline mz_code mz_file_back(mz_tc *tc, const void *bytes, size_t count, u
     mz_frame *f;
     mz_code c = mz_enter(tc, MZ_KIND_TC, (bytes || !count) && whole, &f);
     if (c != MZ_OK) return c;
-    f->place = 0;
     c = mz_hand_in_bytes(f, bytes, count);
-    if (c == MZ_OK) c = mz_make(f, MZ_CALL_FILE_BACK);
-    if (c == MZ_OK) *whole = f->word;
-    else if (place) *place = f->place;
-    if (c == MZ_OK) mz_count_waiting(f);
-    else mz_make(f, MZ_CALL_CLEAR);
-    if (c == MZ_OK && mz_make(f, MZ_CALL_SESSION) == MZ_OK) mz_head_of(f)->session = f->word;
-    return mz_leave(f, c);
+    return mz_leave(f, mz_back_from(f, c, whole, place));
 }
 
 /* Which transaction component this is, of which log: each wire has it, since the numbers of another one begin with 1 as

@@ -404,25 +404,39 @@ static inline mz_code mz_log_file_open(const char *path, mz_log_file **file) {
     return c;
 }
 
-/* All bytes of a file. MZ_MEMORY, MZ_LOG_FAILED. */
-static inline mz_code mz_log_read(int file, uint8_t **bytes, size_t *count) {
-    off_t length = lseek(file, 0, SEEK_END);
-    if (length < 0) return MZ_LOG_FAILED;
-    *bytes = (uint8_t *)malloc((size_t)length + 1);
-    if (!*bytes) return MZ_MEMORY;
-    for (*count = 0; *count < (size_t)length;) {
-        ssize_t n = pread(file, *bytes + *count, (size_t)length - *count, (off_t)*count);
+/* As many bytes from this place of a file on. */
+static inline mz_code mz_log_read(int file, uint8_t *bytes, size_t count, size_t from) {
+    for (size_t at = 0; at < count;) {
+        ssize_t n = pread(file, bytes + at, count - at, (off_t)(from + at));
         if (n < 0 && errno == EINTR) continue;
         if (n <= 0) return MZ_LOG_FAILED;
-        *count += (size_t)n;
+        at += (size_t)n;
     }
     return MZ_OK;
 }
 
-/* Whether the bytes begin with the frame of a header of layout 1 or 2, which says no session. */
-static inline int mz_log_is_sessionless(const uint8_t *bytes, size_t count) {
-    enum { FIRST_FRAME = 88, VERSION = 32 };
-    return count >= FIRST_FRAME && !memcmp(bytes + 24, "mazzulpe", 8) && mz_little(bytes + VERSION, 8) <= 2;
+/* mz_file_back from a file of this length, of which a piece at a time is in memory here. */
+static inline mz_code mz_log_back(int file, mz_tc *tc, size_t count, uint64_t *whole, uint64_t *place) {
+    enum { PIECE = 1 << 14 };
+    uint8_t piece[PIECE];
+    mz_frame *f;
+    mz_code c = mz_enter(tc, MZ_KIND_TC, 1, &f);
+    if (c != MZ_OK) return c;
+    c = mz_make(f, MZ_CALL_CLEAR);
+    for (size_t at = 0, size; c == MZ_OK && at < count; at += size) {
+        size = count - at < (size_t)PIECE ? count - at : (size_t)PIECE;
+        c = mz_log_read(file, piece, size, at);
+        if (c == MZ_OK) c = mz_hand_in_more(f, piece, size);
+    }
+    return mz_leave(f, mz_back_from(f, c, whole, place));
+}
+
+/* Whether the file begins with the frame of a header of layout 1 or 2, which says no session. */
+static inline int mz_log_is_sessionless(int file, size_t count) {
+    enum { FIRST_FRAME = 88, MAGIC = 24, VERSION = 32 };
+    uint8_t bytes[FIRST_FRAME];
+    return count >= FIRST_FRAME && mz_log_read(file, bytes, FIRST_FRAME, 0) == MZ_OK && !memcmp(bytes + MAGIC, "mazzulpe", 8) &&
+           mz_little(bytes + VERSION, 8) <= 2;
 }
 
 /* Sets the number in FILE.session: 16 hexadecimal digits and a line's end. */
@@ -438,31 +452,37 @@ static inline mz_code mz_log_session_beside(mz_log_file *f, mz_tc *tc) {
     return n == 17 && end == text + 16 && *end == '\n' && session ? mz_set_session(tc, session) : MZ_NO_SESSION;
 }
 
-/* Cuts the file behind its whole frames; what is cut off is put behind FILE.dropped first. */
-static inline mz_code mz_log_cut(mz_log_file *f, const uint8_t *bytes, size_t count, size_t whole) {
-    if (whole == count) return MZ_OK;
+/* Puts the end of the file from there on behind FILE.dropped. */
+static inline int mz_log_drop(mz_log_file *f, size_t count, size_t whole) {
+    uint8_t *end = (uint8_t *)malloc(count - whole);
     mz_log_path(f, ".dropped");
-    int file = open(f->beside, O_WRONLY | O_CREAT | O_APPEND | O_CLOEXEC, 0644);
-    int done = file >= 0 && !mz_log_put(file, bytes + whole, count - whole) && !fsync(file) && !mz_log_folder_sync(f);
+    int file = end ? open(f->beside, O_WRONLY | O_CREAT | O_APPEND | O_CLOEXEC, 0644) : -1;
+    int done = file >= 0 && mz_log_read(f->file, end, count - whole, whole) == MZ_OK && !mz_log_put(file, end, count - whole) &&
+               !fsync(file) && !mz_log_folder_sync(f);
     if (file >= 0) close(file);
-    return done && !ftruncate(f->file, (off_t)whole) && !fsync(f->file) ? MZ_OK : MZ_LOG_FAILED;
+    free(end);
+    return done;
+}
+
+/* Cuts the file behind its whole frames, once what is cut off is kept. */
+static inline mz_code mz_log_cut(mz_log_file *f, size_t count, size_t whole) {
+    if (whole == count) return MZ_OK;
+    return mz_log_drop(f, count, whole) && !ftruncate(f->file, (off_t)whole) && !fsync(f->file) ? MZ_OK : MZ_LOG_FAILED;
 }
 
 /* Comes back from what the file has, and says so; a log without its session is refused before anything is done. */
 static inline mz_code mz_log_come_back(mz_log_file *f, mz_tc *tc, mz_log_found *found, uint64_t *length) {
-    uint8_t *bytes = NULL;
     uint64_t whole = 0;
-    size_t count = 0;
-    mz_code c = mz_log_read(f->file, &bytes, &count);
-    if (c == MZ_OK && mz_log_is_sessionless(bytes, count)) c = mz_log_session_beside(f, tc);
-    if (c == MZ_OK) c = mz_file_back(tc, bytes, count, &whole, &found->place);
-    if (c == MZ_OK) c = mz_log_cut(f, bytes, count, (size_t)whole);
+    off_t end = lseek(f->file, 0, SEEK_END);
+    size_t count = (size_t)end;
+    mz_code c = end < 0 ? MZ_LOG_FAILED : MZ_OK;
+    if (c == MZ_OK && mz_log_is_sessionless(f->file, count)) c = mz_log_session_beside(f, tc);
+    if (c == MZ_OK) c = mz_log_back(f->file, tc, count, &whole, &found->place);
+    if (c == MZ_OK) c = mz_log_cut(f, count, (size_t)whole);
     *length = whole;
     found->dropped = c == MZ_OK ? count - whole : 0;
     found->events = c == MZ_OK ? mz_log_length(tc) : 0;
-    if (c == MZ_OK) c = mz_log_new_session(tc);
-    free(bytes);
-    return c;
+    return c == MZ_OK ? mz_log_new_session(tc) : c;
 }
 
 /* ---- a log in a file */
