@@ -19,8 +19,10 @@ returns-in-65 c = filed_as _ _ _ _ _ 65 c.in-65.is refl (c.take_back.ensures.ref
     (c.take_back.ensures.why) (λ wrong. (c.take_back.ensures.gathered wrong, c.take_back.ensures.requests))
 
 pub returns-in-66 : goal.returns-in-66
-returns-in-66 c = filed_as _ _ _ _ _ 66 c.in-66.is refl (λ wrong. refl) (λ wrong. same_file _ _ refl) (λ _. c.session.ensures.done)
-    (λ wrong. wrong c.session.ensures.code) (λ wrong. same_rest _ _ refl)
+returns-in-66 c =
+    let p = c.args.self.now in
+    filed_as p _ _ p _ 66 c.in-66.is refl (λ wrong. refl) (λ wrong. same_file p p refl) (λ _. c.session.ensures.done)
+    (λ wrong. wrong c.session.ensures.code) (λ wrong. same_rest p p refl)
 
 pub returns-in-67 : goal.returns-in-67
 returns-in-67 c = filed_as _ _ _ _ _ 67 c.in-67.is refl (λ wrong. ap (λ (x : FiledPart). x.part.state) (c.set_session.ensures.refused wrong))
