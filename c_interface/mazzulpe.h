@@ -89,8 +89,8 @@ extern "C" {
 
 /* ---- what is handed over */
 
-#define MZ_VERSION 1 /* of this header and of the frame; mazzulpe_version() answers the library's */
-#define MZ_RELEASE "0.1.0" /* 0.MZ_VERSION.PATCH: of the library, its packages and procd */
+#define MZ_VERSION 2 /* of this header and of the frame; mazzulpe_version() answers the library's */
+#define MZ_RELEASE "0.2.0" /* 0.MZ_VERSION.PATCH: of the library, its packages and procd */
 
 typedef uint32_t mz_code;
 #define MZ_CODE(letter, number) ((mz_code)((letter) << 8 | (number)))
@@ -138,7 +138,8 @@ typedef uint32_t mz_code;
 #define MZ_HAS_RECORDS MZ_CODE('F', 7)        /* a log's file begins with records, which no engine's does */
 #define MZ_LOG_FAILED MZ_CODE('F', 8)         /* mazzulpe_log.h: the file can't be read, written or synced */
 #define MZ_LOG_IN_USE MZ_CODE('F', 9)         /* mazzulpe_log.h: another has opened it */
-#define MZ_NO_SESSION MZ_CODE('F', 10)        /* mazzulpe_log.h: FILE.session isn't there */
+#define MZ_NO_SESSION MZ_CODE('F', 10)        /* mazzulpe_log.h: neither the log nor FILE.session says one */
+#define MZ_SESSION_STAYS MZ_CODE('F', 11)     /* the log's file says it, or a wire may have it */
 #define MZ_NAME_TAKEN MZ_CODE('P', 1)
 #define MZ_DC_UNKNOWN MZ_CODE('P', 2)         /* an access slot names a data component that isn't there */
 /* 'E' 1 to 7: the bytes are no code; 'S' 1 to 3: the access slots are no declaration; 'V' 1 to 14: the
@@ -259,7 +260,7 @@ enum {
     MZ_CALL_CHECKPOINT, MZ_CALL_INCARNATION, MZ_CALL_HEAR_MARK, MZ_CALL_FORGET,
     MZ_CALL_VERIFY = 50, MZ_CALL_RUN, MZ_CALL_RESUME,
     MZ_CALL_WAITING_FROM = 60, MZ_CALL_REDO_BEHIND, MZ_CALL_RESULT,
-    MZ_CALL_FILE_AHEAD, MZ_CALL_FILE_BYTES, MZ_CALL_FILE_BACK
+    MZ_CALL_FILE_AHEAD, MZ_CALL_FILE_BYTES, MZ_CALL_FILE_BACK, MZ_CALL_SESSION, MZ_CALL_SET_SESSION
 };
 
 /* What a handle points to; behind it comes the library's part, which begins with the frame. */
@@ -269,7 +270,7 @@ typedef struct {
     uint32_t busy;       /* with MZ_DEBUG: 1 while a call is on its way */
     uint64_t object;     /* of a transaction component: the digest of the object file that MZ_MEMORY cut off */
     uint64_t of_object;  /* and how many of its procedures are loaded */
-    uint64_t session;    /* of a transaction component: which one it is */
+    uint64_t session;    /* which one it is of a transaction component, whose library has it too; or of a data component */
     mz_reply refused;    /* to the data component refused_dc, which may be 0 too: what mz_refused_reply says */
     uint32_t refused_dc, is_refused;
     uint64_t is_begun;   /* of a data component: 1 where mz_dc_begin gave it its session */
@@ -426,8 +427,8 @@ static inline mz_code mz_put_call(mz_frame *f, uint64_t procedure, const uint64_
 }
 
 /* These bytes in place of all that was handed in. */
-static inline mz_code mz_hand_in_bytes(mz_frame *f, const void *from, size_t bytes) {
-    mz_code c = mz_make(f, MZ_CALL_CLEAR);
+static inline mz_code mz_hand_in_more(mz_frame *f, const void *from, size_t bytes) {
+    mz_code c = MZ_OK;
     const uint8_t *at = (const uint8_t *)from;
     for (; c == MZ_OK && bytes; at += f->count, bytes -= f->count) {
         f->count = bytes < 256 ? (uint32_t)bytes : 256;
@@ -435,6 +436,11 @@ static inline mz_code mz_hand_in_bytes(mz_frame *f, const void *from, size_t byt
         c = mz_make(f, MZ_CALL_BYTES);
     }
     return c;
+}
+
+static inline mz_code mz_hand_in_bytes(mz_frame *f, const void *from, size_t bytes) {
+    mz_code c = mz_make(f, MZ_CALL_CLEAR);
+    return c == MZ_OK ? mz_hand_in_more(f, from, bytes) : c;
 }
 
 static inline mz_code mz_hand_in(mz_frame *f, const void *code, size_t bytes, const mz_slot *slots, size_t count) {
@@ -1098,13 +1104,27 @@ static inline mz_code mz_recover(mz_tc *tc, const void *rows, size_t count, cons
     return mz_leave(f, c);
 }
 
+/* ---- inside */
+
+/* Comes back from a file's bytes, which are handed in unless `c` says why not. */
+static inline mz_code mz_back_from(mz_frame *f, mz_code c, uint64_t *whole, uint64_t *place) {
+    f->place = 0;
+    if (c == MZ_OK) c = mz_make(f, MZ_CALL_FILE_BACK);
+    if (c == MZ_OK) *whole = f->word;
+    else if (place) *place = f->place;
+    if (c == MZ_OK) mz_count_waiting(f);
+    else mz_make(f, MZ_CALL_CLEAR);
+    if (c == MZ_OK && mz_make(f, MZ_CALL_SESSION) == MZ_OK) mz_head_of(f)->session = f->word;
+    return c;
+}
+
 /* ---- its log as the bytes of a file */
 
 /* The file's format is the one of `procd run --log` (docs/FORMATS.md), which `procd log` reads. mazzulpe_log.h writes
  * such a file. By these three calls an engine does it over a device of its own: before a wire is carried, and before
  * anybody is told how a call ended, what mz_file_ahead has prepared has to be in the file for good. */
 
-/* Prepares what has to be behind the file's end: at first its beginning, and then what has happened, with what is known
+/* Prepares what has to be behind the file's end: at first its beginning, which says the session, and then what has happened, with what is known
  * of data components. *count is how many bytes lie prepared; 0: nothing has to be written. Behind mz_checkpoint it is
  * the whole content of a new file: carry nothing and tell nobody until that has taken the old one's place for good.
  * MZ_OTHER_PROCEDURES: procedures were loaded since the file was begun; mz_checkpoint begins one for them. MZ_FRAMES_SPENT. */
@@ -1130,7 +1150,8 @@ static inline mz_code mz_file_bytes(mz_tc *tc, uint8_t bytes[256], size_t *count
 
 /* Comes back from the bytes of a file, as mz_recover does from rows and notes: the same procedures have to be loaded, in
  * the same order. So many of the bytes, *whole, are whole: cut off what is behind them, the end that a crash left, and
- * write on there. 0: there is nothing to come back from, and mz_file_ahead begins a file.
+ * write on there. 0: there is nothing to come back from, and mz_file_ahead begins a file. The session is the file's from
+ * then on, and where a file of layout 1 or 2 says none, the one that was set before.
  *
  * Refused, with *place (which may be NULL): MZ_BEGUN; MZ_DAMAGED, MZ_NO_BASE, MZ_NO_BATCH at a frame; MZ_NO_LOG;
  * MZ_OTHER_PROCEDURES; MZ_HAS_RECORDS; MZ_NO_EVENT, MZ_LOG_ILLEGAL at an event; MZ_FORGOTTEN of a data component. */
@@ -1138,18 +1159,12 @@ static inline mz_code mz_file_back(mz_tc *tc, const void *bytes, size_t count, u
     mz_frame *f;
     mz_code c = mz_enter(tc, MZ_KIND_TC, (bytes || !count) && whole, &f);
     if (c != MZ_OK) return c;
-    f->place = 0;
     c = mz_hand_in_bytes(f, bytes, count);
-    if (c == MZ_OK) c = mz_make(f, MZ_CALL_FILE_BACK);
-    if (c == MZ_OK) *whole = f->word;
-    else if (place) *place = f->place;
-    if (c == MZ_OK) mz_count_waiting(f);
-    else mz_make(f, MZ_CALL_CLEAR);
-    return mz_leave(f, c);
+    return mz_leave(f, mz_back_from(f, c, whole, place));
 }
 
 /* Which transaction component this is, of which log: each wire has it, since the numbers of another one begin with 1 as
- * well. 0 until it is set; mz_log_open sets the one that is beside the file. */
+ * well. 0 until it is set, or mz_file_back finds it; mazzulpe_log.h sees to it. */
 static inline uint64_t mz_session(mz_tc *tc) {
     mz_frame *f;
     if (mz_enter(tc, MZ_KIND_TC, 1, &f) != MZ_OK) return 0;
@@ -1158,12 +1173,15 @@ static inline uint64_t mz_session(mz_tc *tc) {
     return session;
 }
 
-/* Sets it: once, before the first wire, a number that no other transaction component over the same storage has had. */
+/* Sets it, before mz_recover and mz_file_back: not 0, and no number that another transaction component over the same storage
+ * has had. mz_file_ahead writes it into the file. MZ_SESSION_STAYS: a number was given to a wire, or the file says its session. */
 static inline mz_code mz_set_session(mz_tc *tc, uint64_t session) {
     mz_frame *f;
     mz_code c = mz_enter(tc, MZ_KIND_TC, 1, &f);
     if (c != MZ_OK) return c;
-    mz_head_of(f)->session = session;
+    f->word = session;
+    c = mz_make(f, MZ_CALL_SET_SESSION);
+    if (c == MZ_OK) mz_head_of(f)->session = session;
     return mz_leave(f, c);
 }
 
@@ -1572,6 +1590,7 @@ static inline const char *mz_code_text(mz_code code) {
     case MZ_LOG_FAILED: return "LogFailed";
     case MZ_LOG_IN_USE: return "LogInUse";
     case MZ_NO_SESSION: return "NoSession";
+    case MZ_SESSION_STAYS: return "SessionStays";
     case MZ_NAME_TAKEN: return "NameTaken";
     case MZ_DC_UNKNOWN: return "DcUnknown";
     }

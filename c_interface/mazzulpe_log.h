@@ -14,9 +14,9 @@
  * ONE SYNC SERVES ALL THREADS that wait for one. mz_log_keep does both calls, where there is one thread.
  *
  * THE FILE has the format of `procd run --log`: `procd log FILE` lists it (docs/FORMATS.md). Who opens it has it alone.
- * Beside it stand FILE.session, with the number that mz_session answers, made with the log, FILE.new while the log begins
- * anew, and FILE.dropped, with ends that a crash left and that were cut off. A file that isn't this log is refused, and
- * left as it is.
+ * Its header says the session that mz_session answers. Beside it stand FILE.new while the log begins anew, and FILE.dropped,
+ * with ends that a crash left and that were cut off. A log of layout 1 or 2 has its session in FILE.session until it begins
+ * anew. A file that isn't this log is refused, and left as it is.
  *
  * A WRITE OR A SYNC THAT FAILS is final: what the file has then isn't known. Each later call is MZ_LOG_FAILED. Tell nobody,
  * close, and open it again in another process.
@@ -163,12 +163,25 @@ static inline mz_code mz_log_reach(mz_log *log, uint64_t until, int syncs) {
     return failed ? MZ_LOG_FAILED : c;
 }
 
+/* A session that nobody had, where the log has none yet. MZ_LOG_FAILED; MZ_SESSION_STAYS. */
+static inline mz_code mz_log_new_session(mz_tc *tc) {
+    uint64_t session = mz_session(tc);
+    if (session) return MZ_OK;
+    int from = open("/dev/urandom", O_RDONLY | O_CLOEXEC);
+    if (from < 0) return MZ_LOG_FAILED;
+    ssize_t n = read(from, &session, sizeof session);
+    close(from);
+    return n == (ssize_t)sizeof session ? mz_set_session(tc, session | 1) : MZ_LOG_FAILED;
+}
+
 /* ---- a log over a device */
 
 /* A log over a device whose bytes, none perhaps, mz_file_back has come back from, and which ends behind those that are
- * whole. NULL where there is no memory, or one of tc, device, append, sync and replace is NULL. */
+ * whole; one that begins gets a session of its own, unless mz_set_session gave one. NULL where there is no memory, the log has
+ * wires and no session, or one of tc, device, append, sync and replace is NULL. */
 static inline mz_log *mz_log_over(mz_tc *tc, const mz_device *device) {
     if (!tc || !device || !device->append || !device->sync || !device->replace) return NULL;
+    if (mz_log_new_session(tc) != MZ_OK) return NULL;
     mz_log *log = (mz_log *)calloc(1, sizeof *log);
     if (!log) return NULL;
     log->tc = tc;
@@ -273,13 +286,12 @@ static inline mz_code mz_log_take_over(mz_tc *tc, const mz_device *device, mz_re
     if (!tc || !device || !read || !log) return MZ_BAD_ARGUMENT;
     *log = NULL;
     mz_code c = read(device->context, &bytes, &count, &session);
-    if (c == MZ_OK && !session) c = MZ_NO_SESSION;
+    if (c == MZ_OK) c = session ? mz_set_session(tc, session) : MZ_NO_SESSION;
     if (c == MZ_OK) c = mz_file_back(tc, bytes, count, &whole, &was.place);
     free(bytes);
     if (c == MZ_OK && whole != count) c = MZ_DAMAGED;
     if (c == MZ_OK) was.events = mz_log_length(tc);
     if (found) *found = was;
-    if (c == MZ_OK) c = mz_set_session(tc, session);
     if (c == MZ_OK && !(*log = mz_log_over(tc, device))) c = MZ_MEMORY;
     if (c != MZ_OK) return c;
     (*log)->length = whole;
@@ -339,24 +351,21 @@ static inline int mz_log_folder_sync(mz_log_file *f) {
     return failed;
 }
 
-/* A file with these bytes, for good: FILE.new, which is renamed to FILE with this ending. -1, or the file, at its end. */
-static inline int mz_log_renamed(mz_log_file *f, const char *ending, const void *bytes, size_t count) {
+/* A file with these bytes, for good: FILE.new, which is renamed to FILE. -1, or the file, at its end. */
+static inline int mz_log_renamed(mz_log_file *f, const void *bytes, size_t count) {
     mz_log_path(f, ".new");
     int file = open(f->beside, O_RDWR | O_CREAT | O_TRUNC | O_APPEND | O_CLOEXEC, 0644);
     if (file < 0) return -1;
-    size_t length = strlen(f->path) + strlen(ending) + 1;
-    char *to = (char *)malloc(length);
-    int done = to && snprintf(to, length, "%s%s", f->path, ending) >= 0 && !flock(file, LOCK_EX | LOCK_NB) &&
-               !mz_log_put(file, bytes, count) && !fsync(file) && !rename(f->beside, to) && !mz_log_folder_sync(f);
-    free(to);
-    if (done) return file;
+    if (!flock(file, LOCK_EX | LOCK_NB) && !mz_log_put(file, bytes, count) && !fsync(file) && !rename(f->beside, f->path) &&
+        !mz_log_folder_sync(f))
+        return file;
     close(file);
     return -1;
 }
 
 static inline int mz_log_file_replace(void *context, const void *bytes, size_t count) {
     mz_log_file *f = (mz_log_file *)context;
-    int file = mz_log_renamed(f, "", bytes, count);
+    int file = mz_log_renamed(f, bytes, count);
     if (file < 0) return -1;
     close(f->file);
     f->file = file;
@@ -395,75 +404,85 @@ static inline mz_code mz_log_file_open(const char *path, mz_log_file **file) {
     return c;
 }
 
-/* All bytes of a file. MZ_MEMORY, MZ_LOG_FAILED. */
-static inline mz_code mz_log_read(int file, uint8_t **bytes, size_t *count) {
-    off_t length = lseek(file, 0, SEEK_END);
-    if (length < 0) return MZ_LOG_FAILED;
-    *bytes = (uint8_t *)malloc((size_t)length + 1);
-    if (!*bytes) return MZ_MEMORY;
-    for (*count = 0; *count < (size_t)length;) {
-        ssize_t n = pread(file, *bytes + *count, (size_t)length - *count, (off_t)*count);
+/* As many bytes from this place of a file on. */
+static inline mz_code mz_log_read(int file, uint8_t *bytes, size_t count, size_t from) {
+    for (size_t at = 0; at < count;) {
+        ssize_t n = pread(file, bytes + at, count - at, (off_t)(from + at));
         if (n < 0 && errno == EINTR) continue;
         if (n <= 0) return MZ_LOG_FAILED;
-        *count += (size_t)n;
+        at += (size_t)n;
     }
     return MZ_OK;
 }
 
-/* The number in FILE.session: 16 hexadecimal digits and a line's end. */
-static inline mz_code mz_log_session(mz_log_file *f, uint64_t *session) {
+/* mz_file_back from a file of this length, of which a piece at a time is in memory here. */
+static inline mz_code mz_log_back(int file, mz_tc *tc, size_t count, uint64_t *whole, uint64_t *place) {
+    enum { PIECE = 1 << 14 };
+    uint8_t piece[PIECE];
+    mz_frame *f;
+    mz_code c = mz_enter(tc, MZ_KIND_TC, 1, &f);
+    if (c != MZ_OK) return c;
+    c = mz_make(f, MZ_CALL_CLEAR);
+    for (size_t at = 0, size; c == MZ_OK && at < count; at += size) {
+        size = count - at < (size_t)PIECE ? count - at : (size_t)PIECE;
+        c = mz_log_read(file, piece, size, at);
+        if (c == MZ_OK) c = mz_hand_in_more(f, piece, size);
+    }
+    return mz_leave(f, mz_back_from(f, c, whole, place));
+}
+
+/* Whether the file begins with the frame of a header of layout 1 or 2, which says no session. */
+static inline int mz_log_is_sessionless(int file, size_t count) {
+    enum { FIRST_FRAME = 88, MAGIC = 24, VERSION = 32 };
+    uint8_t bytes[FIRST_FRAME];
+    return count >= FIRST_FRAME && mz_log_read(file, bytes, FIRST_FRAME, 0) == MZ_OK && !memcmp(bytes + MAGIC, "mazzulpe", 8) &&
+           mz_little(bytes + VERSION, 8) <= 2;
+}
+
+/* Sets the number in FILE.session: 16 hexadecimal digits and a line's end. */
+static inline mz_code mz_log_session_beside(mz_log_file *f, mz_tc *tc) {
     char text[18] = "", *end = text;
+    uint64_t session = 0;
     mz_log_path(f, ".session");
     int file = open(f->beside, O_RDONLY | O_CLOEXEC);
     if (file < 0) return errno == ENOENT ? MZ_NO_SESSION : MZ_LOG_FAILED;
     ssize_t n = read(file, text, 17);
     close(file);
-    if (n == 17) *session = strtoull(text, &end, 16);
-    return n == 17 && end == text + 16 && *end == '\n' && *session ? MZ_OK : MZ_NO_SESSION;
+    if (n == 17) session = strtoull(text, &end, 16);
+    return n == 17 && end == text + 16 && *end == '\n' && session ? mz_set_session(tc, session) : MZ_NO_SESSION;
 }
 
-/* A number that nobody had, into FILE.session. */
-static inline mz_code mz_log_new_session(mz_log_file *f, uint64_t *session) {
-    char text[18];
-    int from = open("/dev/urandom", O_RDONLY | O_CLOEXEC);
-    if (from < 0) return MZ_LOG_FAILED;
-    ssize_t n = read(from, session, sizeof *session);
-    close(from);
-    if (n != (ssize_t)sizeof *session) return MZ_LOG_FAILED;
-    *session |= 1;
-    snprintf(text, sizeof text, "%016llx\n", (unsigned long long)*session);
-    int file = mz_log_renamed(f, ".session", text, 17);
-    if (file < 0) return MZ_LOG_FAILED;
-    close(file);
-    return MZ_OK;
-}
-
-/* Cuts the file behind its whole frames; what is cut off is put behind FILE.dropped first. */
-static inline mz_code mz_log_cut(mz_log_file *f, const uint8_t *bytes, size_t count, size_t whole) {
-    if (whole == count) return MZ_OK;
+/* Puts the end of the file from there on behind FILE.dropped. */
+static inline int mz_log_drop(mz_log_file *f, size_t count, size_t whole) {
+    uint8_t *end = (uint8_t *)malloc(count - whole);
     mz_log_path(f, ".dropped");
-    int file = open(f->beside, O_WRONLY | O_CREAT | O_APPEND | O_CLOEXEC, 0644);
-    int done = file >= 0 && !mz_log_put(file, bytes + whole, count - whole) && !fsync(file) && !mz_log_folder_sync(f);
+    int file = end ? open(f->beside, O_WRONLY | O_CREAT | O_APPEND | O_CLOEXEC, 0644) : -1;
+    int done = file >= 0 && mz_log_read(f->file, end, count - whole, whole) == MZ_OK && !mz_log_put(file, end, count - whole) &&
+               !fsync(file) && !mz_log_folder_sync(f);
     if (file >= 0) close(file);
-    return done && !ftruncate(f->file, (off_t)whole) && !fsync(f->file) ? MZ_OK : MZ_LOG_FAILED;
+    free(end);
+    return done;
+}
+
+/* Cuts the file behind its whole frames, once what is cut off is kept. */
+static inline mz_code mz_log_cut(mz_log_file *f, size_t count, size_t whole) {
+    if (whole == count) return MZ_OK;
+    return mz_log_drop(f, count, whole) && !ftruncate(f->file, (off_t)whole) && !fsync(f->file) ? MZ_OK : MZ_LOG_FAILED;
 }
 
 /* Comes back from what the file has, and says so; a log without its session is refused before anything is done. */
 static inline mz_code mz_log_come_back(mz_log_file *f, mz_tc *tc, mz_log_found *found, uint64_t *length) {
-    enum { FIRST_FRAME = 88 };
-    uint8_t *bytes = NULL;
-    uint64_t whole = 0, session = 0;
-    size_t count = 0;
-    mz_code c = mz_log_read(f->file, &bytes, &count), named = mz_log_session(f, &session);
-    if (c == MZ_OK && count >= FIRST_FRAME) c = named;
-    if (c == MZ_OK) c = mz_file_back(tc, bytes, count, &whole, &found->place);
-    if (c == MZ_OK) c = mz_log_cut(f, bytes, count, (size_t)whole);
+    uint64_t whole = 0;
+    off_t end = lseek(f->file, 0, SEEK_END);
+    size_t count = (size_t)end;
+    mz_code c = end < 0 ? MZ_LOG_FAILED : MZ_OK;
+    if (c == MZ_OK && mz_log_is_sessionless(f->file, count)) c = mz_log_session_beside(f, tc);
+    if (c == MZ_OK) c = mz_log_back(f->file, tc, count, &whole, &found->place);
+    if (c == MZ_OK) c = mz_log_cut(f, count, (size_t)whole);
     *length = whole;
     found->dropped = c == MZ_OK ? count - whole : 0;
     found->events = c == MZ_OK ? mz_log_length(tc) : 0;
-    if (c == MZ_OK && !whole) c = mz_log_new_session(f, &session);
-    free(bytes);
-    return c == MZ_OK ? mz_set_session(tc, session) : c;
+    return c == MZ_OK ? mz_log_new_session(tc) : c;
 }
 
 /* ---- a log in a file */

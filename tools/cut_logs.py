@@ -89,12 +89,14 @@ def changed(draw, payloads):
 
 def a_file(draw, world):
     """A file, and how it was changed."""
-    how = draw.choice(["whole", "base", "payloads", "end", "layout 1"])
+    how = draw.choice(["whole", "base", "payloads", "end", "no base"])
     base = other_base(draw, world.base) if how == "base" else world.base
     rows = [base_row(*row) for row in base]
-    payloads = [b"mazzulpe" + numbers(2) + world.header + numbers(len(rows)), *parts(rows)]
-    if how == "layout 1":
-        payloads = [b"mazzulpe" + numbers(1) + world.header]
+    session = draw.choice([b"", draw.randbytes(8)])
+    layout = 4 if session else 2
+    payloads = [b"mazzulpe" + numbers(layout) + world.header + session + numbers(len(rows)), *parts(rows)]
+    if how == "no base":
+        payloads = [b"mazzulpe" + numbers(layout - 1) + world.header + session]
     payloads += batches(draw, world.records, len(world.dcs))
     data = frames(*changed(draw, payloads)) if how == "payloads" else frames(*payloads)
     if how == "end":

@@ -35,10 +35,10 @@ def procedure(args, slots, code):
     return words + numbers(len(code)) + code
 
 
-def header(dcs, *procedures, version=1):
-    """The payload of a log's first frame."""
+def header(dcs, *procedures, version=1, session=()):
+    """The payload of a log's first frame; in layouts 3 and 4 it has one session."""
     digest = hashlib.sha256(b"".join(procedures)).digest()
-    return MAGIC + numbers(version, dcs, len(procedures)) + digest
+    return MAGIC + numbers(version, dcs, len(procedures)) + digest + numbers(*session)
 
 
 def base_row(record, value):
@@ -52,7 +52,7 @@ def parts(base):
 
 
 def cut(head, base, *batches):
-    """The frames of a log that begins behind an earlier one: `head` is a header of version 2."""
+    """The frames of a log that begins behind an earlier one: `head` is a header of version 2 or 4."""
     return frames(head + numbers(len(base)), *parts(base), *batches)
 
 

@@ -13,7 +13,7 @@ from plain_model import op_text, record_text, said_text, value_text
 # bytes behind them are no whole frame.
 Stored = collections.namedtuple("Stored", "dcs base records unfinished")
 
-
+LENGTHS = {1: 64, 2: 72, 3: 72, 4: 80}  # of a header, by its layout
 NEAR = 16  # so many numbers behind that of a frame that isn't whole are looked for whatever stands behind them
 
 
@@ -67,8 +67,8 @@ def payloads_of(data):
     if not count:
         if stands_whole(0, rest):
             raise Refused("Damaged frame 0")
-        front = numbers(0, 64)[: len(data)]
-        raise Refused("Empty" if len(data) < 88 and data[:16] == front else "Other")
+        begins = any(len(data) < 24 + size and data[:16] == numbers(0, size)[: len(data)] for size in (LENGTHS[1], LENGTHS[3]))
+        raise Refused("Empty" if begins else "Other")
     if not is_end(count, rest):
         raise Refused(f"Damaged frame {count}")
     while place < end:
@@ -84,9 +84,9 @@ def payloads_of(data):
 def header_in(payload):
     """How many data components the header says, and how many base records, or None where it begins at the beginning."""
     version, dcs = (int.from_bytes(payload[at : at + 8], "little") for at in (8, 16))
-    if payload[:8] != MAGIC or (version, len(payload)) not in ((1, 64), (2, 72)) or dcs >= 1 << 16:
+    if payload[:8] != MAGIC or LENGTHS.get(version) != len(payload) or dcs >= 1 << 16:
         raise Refused("Other")
-    return dcs, int.from_bytes(payload[64:], "little") if version == 2 else None
+    return dcs, int.from_bytes(payload[-8:], "little") if version in (2, 4) else None
 
 
 def base_in(payloads, count):

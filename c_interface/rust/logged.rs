@@ -6,8 +6,8 @@ mod mazzulpe;
 
 use mazzulpe::log::{Device, Log, LogError, SharedDevice};
 use mazzulpe::{
-    BAD_ARGUMENT, Carried, DAMAGED, DEPOSED, DIVERGED, Dc, LOG_FAILED, LOG_IN_USE, NO_SESSION, Next, Outcome, Ran, Refusal, Said,
-    Tc, Wire,
+    BAD_ARGUMENT, Carried, DAMAGED, DEPOSED, DIVERGED, Dc, LOG_FAILED, LOG_IN_USE, NO_SESSION, Next, Outcome, Ran, Refusal,
+    SESSION_STAYS, Said, Tc, Wire,
 };
 use std::fs;
 use std::io;
@@ -17,6 +17,8 @@ use std::sync::atomic::{AtomicU64, Ordering::Relaxed};
 
 const THREADS: u64 = 4;
 const EACH: u64 = 50;
+/// Where a file says its session: behind 24 bytes of the first frame and 64 of the header.
+const SESSION_AT: usize = 88;
 
 type Failed = Box<dyn std::error::Error>;
 
@@ -129,6 +131,19 @@ fn frames(mut bytes: &[u8]) -> u64 {
     count
 }
 
+/// The same log in layout 1 or 2: without the session.
+fn without_session(whole: &[u8]) -> Vec<u8> {
+    let mut old = [&whole[..SESSION_AT], &whole[SESSION_AT + 8..]].concat();
+    let length = whole[8] - 8;
+    old[8] = length;
+    old[32] -= 2;
+    let hashed = |hash: u64, byte: &u8| (hash ^ u64::from(*byte)).wrapping_mul(0x100_0000_01b3);
+    let number = old[..16].iter().fold(0xcbf2_9ce4_8422_2325, hashed);
+    let checksum = old[24..24 + length as usize].iter().fold(number, hashed);
+    old[16..24].copy_from_slice(&checksum.to_le_bytes());
+    old
+}
+
 fn comes_back(path: &Path, storage: &Storage) -> Result<(), Failed> {
     let mut bytes = fs::read(path)?;
     let torn = frames(&bytes).to_le_bytes();
@@ -148,9 +163,20 @@ fn comes_back(path: &Path, storage: &Storage) -> Result<(), Failed> {
     let other = Log::open(&mut started()?, path).map(|_| ());
     println!("opened twice: {}", matches!(other, Err(LogError::Refused(LOG_IN_USE, 0))));
     drop(log);
-    fs::remove_file(path.with_extension("log.session"))?;
+    println!("set again: {}", tc.set_session(1).is_err_and(|it| it == SESSION_STAYS));
+    let whole = fs::read(path)?;
+    let mut changed = whole.clone();
+    changed[SESSION_AT] ^= 1;
+    fs::write(path, &changed)?;
+    let other = Log::open(&mut started()?, path).map(|_| ());
+    println!("its session changed: {}", matches!(other, Err(LogError::Refused(DAMAGED, 0))));
+    fs::write(path, without_session(&whole))?;
     let other = Log::open(&mut started()?, path).map(|_| ());
     println!("without its session: {}", matches!(other, Err(LogError::Refused(NO_SESSION, 0))));
+    fs::write(path.with_extension("log.session"), "00000000000000ff\n")?;
+    let mut tc = started()?;
+    let (_, found) = Log::open(&mut tc, path)?;
+    println!("with it beside: {}, {found:?}", tc.session());
     Ok(())
 }
 
@@ -172,7 +198,9 @@ impl Device for Failing {
 }
 
 fn fails(storage: &Storage) -> Result<(), Failed> {
-    let (tc, log) = (Mutex::new(started()?), Log::over(Failing));
+    let mut tc = started()?;
+    let log = Log::over(&mut tc, Failing)?;
+    let tc = Mutex::new(tc);
     log.keep(&mut tc.lock().unwrap())?;
     let first = deposit(&tc, &log, storage, 9).is_err();
     let again = log.keep(&mut tc.lock().unwrap());

@@ -20,7 +20,7 @@ pub use values::*;
 use std::alloc::{Layout, alloc, dealloc};
 use std::ptr::NonNull;
 
-pub const VERSION: u32 = 1;
+pub const VERSION: u32 = 2;
 
 #[repr(C)]
 struct Frame {
@@ -92,6 +92,8 @@ mod call {
     pub const FILE_AHEAD: u32 = 63;
     pub const FILE_BYTES: u32 = 64;
     pub const FILE_BACK: u32 = 65;
+    pub const SESSION: u32 = 66;
+    pub const SET_SESSION: u32 = 67;
 }
 
 unsafe extern "C" {
@@ -609,25 +611,32 @@ impl Tc {
         Ok(count)
     }
 
-    /// Comes back from the bytes of a log's file; so many of them are whole, and the rest is to be cut off. On a refusal also the
-    /// frame, the event or the data component.
+    /// Comes back from the bytes of a log's file; so many of them are whole, and the rest is to be cut off. The session is the
+    /// file's from then on, or where that says none the one that was set before. On a refusal also the frame, the event or the
+    /// data component.
     pub fn file_back(&mut self, bytes: &[u8]) -> Result<u64, (Refusal, u64)> {
         self.frame().place = 0;
         let back = self.handle.hand_in_bytes(bytes).and_then(|()| self.handle.call(call::FILE_BACK));
         back.map_err(|refusal| self.handle.refused_at(refusal))?;
         let whole = self.frame().word;
         self.handle.count_waiting();
+        self.handle.session = self.handle.counted(call::SESSION);
         Ok(whole)
     }
 
-    /// Which transaction component this is, of those over the same storage: each wire has it. 0 until it is set.
+    /// Which transaction component this is, of those over the same storage: each wire has it. 0 until it is set, or
+    /// [`Tc::file_back`] finds it.
     pub fn session(&mut self) -> u64 {
         self.handle.session
     }
 
-    /// Sets it: once, before the first wire, a number that no other one has had. [`log::Log::open`] does.
-    pub fn set_session(&mut self, session: u64) {
+    /// Sets it, before [`Tc::recover`] and [`Tc::file_back`]: not 0, and no number that another one has had. [`SESSION_STAYS`]: a
+    /// number was given to a wire, or the file says its session.
+    pub fn set_session(&mut self, session: u64) -> Result<(), Refusal> {
+        self.frame().word = session;
+        self.handle.call(call::SET_SESSION)?;
         self.handle.session = session;
+        Ok(())
     }
 
     /// How many events the log has.

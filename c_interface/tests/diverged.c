@@ -8,8 +8,8 @@
 enum { DCS = 2, TRIES = 3 };
 
 /* said: what the data component says to a wire in place of the right answer, where it isn't 0; becomes: what becomes of a wire in
- * place of its being carried. */
-typedef struct { mz_tc *tc; mz_dc *dc; mz_said said; int carried, loses; mz_carried becomes; mz_wire last; } bank;
+ * place of its being carried; session: in place of the wire's. */
+typedef struct { mz_tc *tc; mz_dc *dc; mz_said said; int carried, loses; mz_carried becomes; mz_wire last; uint64_t session; } bank;
 
 static mz_carried carry(void *context, const mz_wire *wire, mz_reply *reply, mz_news *news) {
     bank *b = (bank *)context;
@@ -18,7 +18,9 @@ static mz_carried carry(void *context, const mz_wire *wire, mz_reply *reply, mz_
     b->last = *wire;
     if (b->loses) return MZ_LOST;
     if (b->becomes) return b->becomes;
-    mz_code c = mz_dc_perform(b->dc, wire, reply);
+    mz_wire sent = *wire;
+    if (b->session) sent.session = b->session;
+    mz_code c = mz_dc_perform(b->dc, &sent, reply);
     if (c != MZ_OK) return c == MZ_DEPOSED ? MZ_RETIRED : MZ_LOST;
     if (b->said) reply->said = b->said;
     return MZ_REPLIED;
@@ -127,7 +129,7 @@ static void not_carried(void) {
     SEEN(ran(&b, txn, &stopped) == MZ_LOG_FAILED && b.carried == 1 && mz_refused_reply(b.tc, NULL, NULL) == MZ_NO_PLACE);
     b.becomes = MZ_LOST;
     SEEN(ran(&b, txn, &stopped) == MZ_OK && stopped == MZ_OVER && mz_dc_rows(b.dc) == 1);
-    SEEN(mz_set_session(b.tc, 6) == MZ_OK);
+    b.session = 6;
     txn = admitted(&b, 0, 2);
     SEEN(ran(&b, txn, &stopped) == MZ_DEPOSED && b.carried == 1 && refused(&b) == 3 && mz_open_count(b.tc) == 1);
     SEEN(mz_dc_restart(b.dc, &news) == MZ_OK && mz_told(b.tc, 0, &news) == MZ_OK);

@@ -188,6 +188,79 @@ static void goes_on(const content *whole) {
     closed(&b);
 }
 
+/* ---- sessions */
+
+/* FNV-1a, of 64 bits. */
+static uint64_t hashed(uint64_t hash, const uint8_t *bytes, size_t count) {
+    for (size_t i = 0; i < count; i++) hash = (hash ^ bytes[i]) * 1099511628211u;
+    return hash;
+}
+
+static void put_number(uint8_t *at, uint64_t number) {
+    for (int i = 0; i < 8; i++) at[i] = (uint8_t)(number >> 8 * i);
+}
+
+enum { FRAME_HEAD = 24, VERSION_AT = FRAME_HEAD + 8, SESSION_AT = FRAME_HEAD + 64 };
+
+/* The same log in layout 1 or 2: without the session. */
+static void without_session(const content *whole, content *old) {
+    const size_t length = (size_t)mz_little(whole->bytes + 8, 8) - 8;
+    memcpy(old->bytes, whole->bytes, SESSION_AT);
+    memcpy(old->bytes + SESSION_AT, whole->bytes + SESSION_AT + 8, whole->count - SESSION_AT - 8);
+    old->count = whole->count - 8;
+    put_number(old->bytes + 8, length);
+    put_number(old->bytes + VERSION_AT, mz_little(whole->bytes + VERSION_AT, 8) - 2);
+    put_number(old->bytes + 16, hashed(hashed(14695981039346656037u, old->bytes, 16), old->bytes + FRAME_HEAD, length));
+}
+
+static void session_changed(content *whole) {
+    whole->bytes[SESSION_AT + 3] ^= 1;
+    SEEN(reopened(whole->bytes, whole->count, NULL) == MZ_DAMAGED && is_content(other, whole->bytes, whole->count));
+    whole->bytes[SESSION_AT + 3] ^= 1;
+}
+
+/* Its session is in FILE.session until it begins anew, and in the header from then on. */
+static void older_layout(const content *whole, uint64_t version) {
+    static content old;
+    bank b;
+    mz_log_found found;
+    without_session(whole, &old);
+    SEEN(mz_little(old.bytes + VERSION_AT, 8) == version);
+    unlink(beside(other, ".session"));
+    SEEN(reopened(old.bytes, old.count, NULL) == MZ_NO_SESSION && is_content(other, old.bytes, old.count));
+    written(beside(other, ".session"), "00000000000000ff\n", 17);
+    opened(&b, other, &found);
+    SEEN(mz_session(b.tc) == 0xff && found.events == synced[syncs - 1].events && is_content(other, old.bytes, old.count));
+    SEEN(mz_set_session(b.tc, 7) == MZ_SESSION_STAYS && mz_session(b.tc) == 0xff);
+    SEEN(mz_log_checkpoint(b.log, mz_last_number(b.tc)) == MZ_OK);
+    closed(&b);
+    unlink(beside(other, ".session"));
+    opened(&b, other, &found);
+    SEEN(mz_session(b.tc) == 0xff && found.events == 1);
+    closed(&b);
+    content_of(other, &old);
+    SEEN(mz_little(old.bytes + VERSION_AT, 8) == 4 && mz_little(old.bytes + SESSION_AT, 8) == 0xff);
+}
+
+static void sessions_set(void) {
+    mz_tc *tc = started();
+    SEEN(mz_set_session(tc, 0) == MZ_BAD_ARGUMENT && mz_session(tc) == 0);
+    SEEN(mz_set_session(tc, 5) == MZ_OK && mz_set_session(tc, 6) == MZ_OK && mz_session(tc) == 6);
+    uint64_t txn = 0, count = 0, procedure = 0;
+    const uint64_t args[] = {0, 1};
+    mz_asked asked;
+    SEEN(mz_find(tc, "deposit_here", &procedure) == MZ_OK && mz_admit(tc, procedure, args, 2, &txn, NULL, NULL) == MZ_OK);
+    SEEN(mz_set_session(tc, 7) == MZ_OK && mz_ask(tc, txn, &asked) == MZ_OK && asked.wire.session == 7);
+    SEEN(mz_set_session(tc, 8) == MZ_SESSION_STAYS && mz_session(tc) == 7);
+    mz_tc_free(tc);
+    tc = started();
+    SEEN(mz_file_ahead(tc, &count) == MZ_OK && mz_set_session(tc, 5) == MZ_OK);
+    mz_tc_free(tc);
+    tc = started();
+    SEEN(mz_set_session(tc, 5) == MZ_OK && mz_file_ahead(tc, &count) == MZ_OK && mz_set_session(tc, 6) == MZ_SESSION_STAYS);
+    mz_tc_free(tc);
+}
+
 /* ---- what can't be opened */
 
 static mz_code refused(mz_tc *tc, const char *at) {
@@ -206,8 +279,6 @@ static void not_opened(const content *whole) {
     SEEN(refused(tc, other) == MZ_NO_LOG && is_content(other, text, sizeof text));
     written(other, whole->bytes, whole->count);
     SEEN(refused(empty, other) == MZ_OTHER_PROCEDURES);
-    unlink(beside(other, ".session"));
-    SEEN(refused(tc, other) == MZ_NO_SESSION && is_content(other, whole->bytes, whole->count));
     SEEN(refused(NULL, path) == MZ_BAD_ARGUMENT && mz_log_open(tc, NULL, &log, NULL) == MZ_BAD_ARGUMENT);
     SEEN(mz_log_keep(NULL) == MZ_BAD_ARGUMENT && mz_log_sync(NULL, 0) == MZ_BAD_ARGUMENT);
     SEEN(mz_log_checkpoint(NULL, 0) == MZ_BAD_ARGUMENT);
@@ -253,9 +324,9 @@ static void over(bank *b, device *d) {
     memset(b, 0, sizeof *b);
     b->tc = started();
     for (int dc = 0; dc < DCS; dc++) b->dcs[dc] = mz_dc_new(100, 100000, &c);
+    SEEN(!mz_log_over(NULL, &device) && !mz_log_over(b->tc, NULL) && !mz_session(b->tc));
     b->log = mz_log_over(b->tc, &device);
-    if (!b->log) exit(2);
-    mz_set_session(b->tc, 1);
+    if (!b->log || !mz_session(b->tc)) exit(2);
 }
 
 /* Behind the first failure each call is refused, and nothing more reaches the device. */
@@ -482,11 +553,13 @@ int main(int count, char **words) {
     for (int cuts = 0; cuts < 2; cuts++) {
         unlink(path);
         lived(&whole, cuts);
-        written(beside(other, ".session"), "00000000000000ff\n", 17);
         cut(&whole);
         changed(&whole, last_frame(&whole));
+        session_changed(&whole);
+        older_layout(&whole, cuts ? 2 : 1);
         goes_on(&whole);
     }
+    sessions_set();
     not_opened(&whole);
     device_that_fails();
     gathered();

@@ -32,7 +32,7 @@ static void marked(char *are_calls, int from, int to) {
 
 static void begins(void) {
     char tc[100] = {0}, dc[100] = {0}, program[100] = {0};
-    marked(tc, 10, 39), tc[17] = tc[18] = tc[19] = 0, marked(tc, 60, 65);
+    marked(tc, 10, 39), tc[17] = tc[18] = tc[19] = 0, marked(tc, 60, 67);
     marked(dc, 40, 49);
     marked(program, 10, 12), marked(program, 50, 52);
     void *handle = begun(MZ_CALL_START_TC, 65535, 0, MZ_OK);

@@ -34,6 +34,8 @@ INSERTS = bytes.fromhex("b701000000000000 8500000002000000 b700000000000000 9500
 KEEP = procedure(1, [(1, 1, 2, 0, 0)], INSERTS)
 OWN = header(2, NOTE, NOTHING, KEEP)
 CUT = header(2, NOTE, NOTHING, KEEP, version=2)
+ENGINES = header(2, NOTE, NOTHING, KEEP, version=3, session=[2**64 - 1])
+ENGINES_CUT = header(2, NOTE, NOTHING, KEEP, version=4, session=[5])
 
 ADMITTED = event(1, 1, 1, body=numbers(77))
 ENDED = event(5, 1, 1)
@@ -81,6 +83,7 @@ LISTED = [
     (frames(OWN), ""),
     (frames(OWN, batch()), ""),
     (frames(OWN, batch(*ROWS)), PRINTED),
+    (frames(ENGINES, batch(*ROWS)), PRINTED),
     (frames(header(0), batch(*ROWS[:7]), batch(*ROWS[7:])), PRINTED),
     (frames(OWN, batch(ENDED, notes=[(1, 1, 3, 4), (0, 2, 1, 0)])), "0 end 1 committed\n"),
     (frames(OWN, batch(ENDED))[:-1], "unfinished 127 bytes\n"),
@@ -107,6 +110,8 @@ WITH_ROWS = [
     (cut(header(0, version=2), [base_row((65535, 65535, 2**64 - 1), b"")], batch(BEGUN)), "0 checkpoint 3 4\n",
      "row 65535/65535/18446744073709551615 0\n", ""),
     (cut(CUT, MANY, batch(BEGUN)), "0 checkpoint 3 4\n", MANY_LINES, ""),
+    (cut(ENGINES_CUT, [], batch(BEGUN)), "0 checkpoint 3 4\n", "", ""),
+    (cut(ENGINES_CUT, [HERE], batch(BEGUN)) + b"\3", "0 checkpoint 3 4\n", "row 0/5/1 9\n", "unfinished 1 bytes\n"),
     (cut(CUT, MANY[:-1], batch(BEGUN)), "0 checkpoint 3 4\n", MANY_LINES[: -len("row 1/2/4096 4096\n")], ""),
 ]
 UNREAD = [
@@ -119,7 +124,13 @@ UNREAD = [
     (frames(OWN, batch(ENDED)) * 2, "log Damaged frame 2"),
     (frames(OWN) * 2, "log Damaged frame 1"),
     (frames(b""), "log Other"),
+    (frames(ENGINES)[:-1], "log Empty"),
+    (frames(ENGINES)[:16] + bytes(79), "log Empty"),
+    (frames(ENGINES)[:16] + bytes(80), "log Other"),
     (frames(header(2, version=2)), "log Other"),
+    (frames(header(2, version=3)), "log Other"),
+    (frames(header(2, version=5, session=[1])), "log Other"),
+    (frames(ENGINES_CUT), "log Other"),
     (frames(header(65536)), "log Other"),
     (frames(OWN + b"\0"), "log Other"),
     (bytes(DAMAGED), "log Damaged frame 1"),
@@ -163,6 +174,7 @@ AUDITED = [
     (frames(OWN, batch(ENDED)), "refused U1 LogIllegal place 0\n", 1),
     (frames(OWN, batch(ADMITTED, SECOND, ENDED, ENDED)), "refused U1 LogIllegal place 3\n", 1),
     (frames(OWN, batch(event(6, 0, 0, 0), ADMITTED, ENDED)), "audit ok ended 1 open 0\n", 0),
+    (frames(ENGINES, batch(ADMITTED, ENDED)), "audit ok ended 1 open 0\n", 0),
     (frames(OWN, batch(event(6, 0, 1, 0), SECOND, ABORTED)), "audit ok ended 1 open 0\n", 0),
     (frames(OWN, batch(event(6, 0, 1, 0), ADMITTED)), "refused U1 LogIllegal place 1\n", 1),
     (frames(OWN, batch(ADMITTED, ENDED, event(6, 0, 1, 0))), "refused U1 LogIllegal place 2\n", 1),
@@ -195,6 +207,7 @@ OTHERS = [
     (frames(header(2)) + b"\1", "procedures 0 script 3"),
     (frames(header(2, NOTE, KEEP, NOTHING)), "digest"),
     (frames(header(2, NOTE, NOTHING, NOTHING)), "digest"),
+    (frames(header(1, NOTE, version=3, session=[1])), "dcs 1 script 2"),
 ]
 CUT_OTHERS = [
     (cut(header(3, NOTE, NOTHING, KEEP, version=2), [HERE], batch(BEGUN)), "dcs 3 script 2"),
@@ -210,6 +223,10 @@ ROOM = {
 # What isn't read as anybody's, as a run says it.
 NOBODYS = [
     (b"# A page\n", "Other"),
+    (frames(ENGINES), "Other session"),
+    (cut(ENGINES_CUT, [], batch(BEGUN)), "Other session"),
+    (frames(header(2, NOTE, KEEP, NOTHING, version=3, session=[0])), "Other session"),
+    (frames(ENGINES)[:-1], "Other"),
     (frames(header(2, NOTE), b""), "Other"),
     (frames(header(2, version=2)), "Other"),
     (frames(OWN, b""), "NoBatch frame 1"),

@@ -15,8 +15,6 @@ use std::path::{Path, PathBuf};
 use std::sync::atomic::{AtomicBool, Ordering::SeqCst};
 use std::sync::{Arc, Condvar, Mutex, MutexGuard};
 
-/// So many bytes a log's first frame has at least.
-const FIRST_FRAME: usize = 88;
 /// Where so many are gathered the device gets them.
 const MOST: usize = 1 << 20;
 
@@ -94,14 +92,18 @@ fn prepared(tc: &mut Tc, bytes: &mut Vec<u8>) -> Result<(), Refusal> {
 }
 
 impl<D: Device> Log<D> {
-    /// Over a device whose bytes [`Tc::file_back`] has come back from, and which ends behind those that are whole.
-    pub fn over(device: D) -> Log<D> {
-        Log {
+    /// Over a device whose bytes [`Tc::file_back`] has come back from, and which ends behind those that are whole; one that
+    /// begins gets a session of its own, unless [`Tc::set_session`] gave one. `SESSION_STAYS`: it has wires and no session.
+    pub fn over(tc: &mut Tc, device: D) -> Result<Log<D>, LogError> {
+        if tc.session() == 0 {
+            tc.set_session(new_session()?)?;
+        }
+        Ok(Log {
             device,
             failed: AtomicBool::new(false),
             progress: Mutex::new(Progress::default()),
             done: Condvar::new(),
-        }
+        })
     }
 
     fn locked(&self) -> MutexGuard<'_, Progress> {
@@ -225,13 +227,13 @@ impl<D: SharedDevice> Log<D> {
         if session == 0 {
             return Err(NO_SESSION.into());
         }
+        tc.set_session(session)?;
         let whole = tc.file_back(&bytes).map_err(|(refusal, place)| LogError::Refused(refusal, place))?;
         if whole != bytes.len() as u64 {
             return Err(DAMAGED.into());
         }
-        tc.set_session(session);
         let found = Found { events: tc.log_length(), dropped: 0 };
-        let log = Log::over(device);
+        let log = Log::over(tc, device)?;
         log.keep(tc)?;
         Ok((log, found))
     }
@@ -270,16 +272,21 @@ fn locked(file: &File) -> Result<(), LogError> {
     }
 }
 
-/// A file with these bytes, for good: PATH.new, which is renamed to `to`.
-fn renamed(path: &Path, to: &Path, bytes: &[u8]) -> io::Result<File> {
+/// A file with these bytes, for good: PATH.new, which is renamed to PATH.
+fn renamed(path: &Path, bytes: &[u8]) -> io::Result<File> {
     let new = beside(path, ".new");
     let mut file = OpenOptions::new().read(true).write(true).create(true).truncate(true).open(&new)?;
     file.try_lock()?;
     file.write_all(bytes)?;
     file.sync_all()?;
-    rename(&new, to)?;
-    sync_folder(to)?;
+    rename(&new, path)?;
+    sync_folder(path)?;
     Ok(file)
+}
+
+/// Whether the bytes begin with the frame of a header of layout 1 or 2, which says no session.
+fn is_sessionless(bytes: &[u8]) -> bool {
+    bytes.len() >= 88 && bytes[24..32] == *b"mazzulpe" && bytes[32] <= 2 && bytes[33..40] == [0; 7]
 }
 
 /// The number in PATH.session, if it is there.
@@ -289,13 +296,11 @@ fn session_of(path: &Path) -> Option<u64> {
     u64::from_str_radix(digits, 16).ok().filter(|&it| it != 0)
 }
 
-/// A number that nobody had, into PATH.session.
-fn new_session(path: &Path) -> io::Result<u64> {
+/// A number that nobody had.
+fn new_session() -> io::Result<u64> {
     let mut bytes = [0; 8];
     File::open("/dev/urandom")?.read_exact(&mut bytes)?;
-    let session = u64::from_le_bytes(bytes) | 1;
-    renamed(path, &beside(path, ".session"), format!("{session:016x}\n").as_bytes())?;
-    Ok(session)
+    Ok(u64::from_le_bytes(bytes) | 1)
 }
 
 /// Cuts the file behind its whole frames; what is cut off is put behind PATH.dropped first.
@@ -338,7 +343,7 @@ impl Device for LogFile {
     }
 
     fn replace(&self, bytes: &[u8]) -> io::Result<()> {
-        let file = renamed(&self.path, &self.path, bytes)?;
+        let file = renamed(&self.path, bytes)?;
         *self.file.lock().expect("nobody panics under it") = Arc::new(file);
         Ok(())
     }
@@ -351,18 +356,13 @@ impl Log<LogFile> {
         let file = LogFile::open(path)?;
         let mut bytes = Vec::new();
         (&file).read_to_end(&mut bytes)?;
-        let session = session_of(path);
-        if session.is_none() && bytes.len() >= FIRST_FRAME {
-            return Err(NO_SESSION.into());
+        if is_sessionless(&bytes) {
+            tc.set_session(session_of(path).ok_or(NO_SESSION)?)?;
         }
         let whole = tc.file_back(&bytes).map_err(|(refusal, place)| LogError::Refused(refusal, place))? as usize;
         cut(path, &file, &bytes, whole)?;
-        tc.set_session(match session.filter(|_| whole > 0) {
-            Some(session) => session,
-            None => new_session(path)?,
-        });
         let found = Found { events: tc.log_length(), dropped: (bytes.len() - whole) as u64 };
-        let log = Log::over(LogFile { path: path.to_path_buf(), file: Mutex::new(Arc::new(file)) });
+        let log = Log::over(tc, LogFile { path: path.to_path_buf(), file: Mutex::new(Arc::new(file)) })?;
         log.keep(tc)?;
         Ok((log, found))
     }

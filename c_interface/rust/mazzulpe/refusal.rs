@@ -64,6 +64,8 @@ pub const HAS_RECORDS: Refusal = code('F', 7);
 pub const LOG_FAILED: Refusal = code('F', 8);
 pub const LOG_IN_USE: Refusal = code('F', 9);
 pub const NO_SESSION: Refusal = code('F', 10);
+/// The log's file says it, or a wire may have it.
+pub const SESSION_STAYS: Refusal = code('F', 11);
 pub const NAME_TAKEN: Refusal = code('P', 1);
 pub const DC_UNKNOWN: Refusal = code('P', 2);
 
@@ -137,6 +139,7 @@ impl Refusal {
             LOG_FAILED => "LogFailed",
             LOG_IN_USE => "LogInUse",
             NO_SESSION => "NoSession",
+            SESSION_STAYS => "SessionStays",
             NAME_TAKEN => "NameTaken",
             DC_UNKNOWN => "DcUnknown",
             Refusal(code) => match (code >> 8) as u8 {

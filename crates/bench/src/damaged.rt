@@ -15,6 +15,7 @@ const HEADER: Header = Header {
     dcs: 1,
     procedures: 1,
     digest: [7; 32],
+    session: None,
 };
 
 // Bytes of an event's row, and of what stands before a frame's payload.

@@ -419,7 +419,7 @@ const LOG: &str =
     "Print the events of a log's file, one a line, as `7 end 3 committed`; or draw them, or audit it beside a script";
 
 /// The release, which `--version` prints: `MZ_RELEASE` of the library for C.
-const RELEASE: &str = "0.1.0";
+const RELEASE: &str = "0.2.0";
 
 // The command line of the program.
 pub(crate) fn procd_command<'a>(alloc: Global) -> Result<Command<'a>, AllocError>

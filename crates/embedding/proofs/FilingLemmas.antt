@@ -16,22 +16,22 @@ true_false same = cc
 
 -- a call of this number, which is one for the file
 pub filed_as : (p : FiledPart) (f : Frame) (code : ℕ) (p' : FiledPart) (f' : Frame) (what : ℕ) → f.what ≡ what → is_file_call what ≡ true
-    → (code ≢ 0 → p'.part.state ≡ p.part.state) → (code ≢ 0 → HasSameFile p p') → (code ≡ 0 → FiledBy what p p' f')
-    → (code ≢ 0 → UnfiledBy what p code f')
+    → (code ≢ 0 → p'.part.state ≡ p.part.state) → (code ≢ 0 → HasSameFile p p') → (code ≡ 0 → FiledBy what p f p' f')
+    → (code ≢ 0 → UnfiledBy what p f code f')
     → (code ≢ 0 → IsAsGathered p.part.gathered p'.part.gathered × KeepsRequests p.part p'.part) → IsFiled p f code p' f'
 filed_as p f code p' f' what is listed refused kept filed why rest = record {
   refused = refused;
   kept = kept;
-  filed = λ e. subst (λ (n : ℕ). FiledBy n p p' f') (sym is) (filed e);
-  why = λ e. subst (λ (n : ℕ). UnfiledBy n p code f') (sym is) (why e);
+  filed = λ e. subst (λ (n : ℕ). FiledBy n p f p' f') (sym is) (filed e);
+  why = λ e. subst (λ (n : ℕ). UnfiledBy n p f code f') (sym is) (why e);
   rest = λ e listed. rest e;
   served = λ other. absurd (true_false (sym (subst (λ (n : ℕ). is_file_call n ≡ true) (sym is) listed) ∙ other));
 }
 
 -- any other
 pub served_by : (p : FiledPart) (f : Frame) (code : ℕ) (p' : FiledPart) (f' : Frame) → is_file_call f.what ≡ false
-    → IsServed p.part f code p'.part f' → (code ≢ 0 → HasSameFile p p') → (code ≡ 0 → FiledBy f.what p p' f')
-    → (code ≢ 0 → UnfiledBy f.what p code f') → IsFiled p f code p' f'
+    → IsServed p.part f code p'.part f' → (code ≢ 0 → HasSameFile p p') → (code ≡ 0 → FiledBy f.what p f p' f')
+    → (code ≢ 0 → UnfiledBy f.what p f code f') → IsFiled p f code p' f'
 served_by p f code p' f' other served kept filed why = record {
   refused = served.refused;
   kept = kept;

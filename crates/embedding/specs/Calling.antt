@@ -31,6 +31,7 @@ pub record BeginsTc (f : Frame) (body : Body) : Type 0 where
   pub requests : part.part.requests.items ≡ []
   pub gathered : HasNothing part.part.gathered
   pub file : part.file.header ≡ None
+  pub session : part.file.session ≡ None
   pub prepared : part.prepared ≡ []
 
 pub data WhyNoTc (f : Frame) (code : ℕ) : Type 0 where

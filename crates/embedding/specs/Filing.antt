@@ -1,25 +1,27 @@
 -- What one call makes of a transaction component and its log's file.
-use Rattle.std.specs.Prelude.{◌≡◌, ◌≢◌, ℕ, Bool, true, false, ◌==◌, ⊤, MatchBool, List, [], ◌∷◌, ◌++◌, length, min, take, drop, None}
+use Rattle.std.specs.Prelude.{◌≡◌, ◌≢◌, ◌≤◌, ℕ, Bool, true, false, ◌==◌, ⊤, MatchBool, List, [], ◌∷◌, ◌++◌, length, min, take, drop, Option, Some, None}
 use Rattle.std.specs.List.{list_any}
 use Rattle.history.specs.Anew.{begun}
+use Rattle.history.specs.Flight.{given}
 use Rattle.transactions.specs.Legal.{Legal}
 use Rattle.tc_core.specs.Core.{Core, loaded_in}
 use Rattle.tc_core.specs.Recovery.{recovered, AllReach, IsRecoverFault}
 use Rattle.tc_core.specs.declared.recovery.RecoverFault.{RecoverFault}
 use Rattle.log_file.specs.declared.header.Header.{Header}
-use Rattle.log_file.specs.Reading.{IsBegun as IsUnwritten}
+use Rattle.log_file.specs.Stored.{MayBegin}
 use Rattle.procedure_digest.specs.Header.{header_of}
-use Rattle.engine_log.specs.Handing.{GoesOn, IsAheadFault}
+use Rattle.engine_log.specs.Handing.{says_session, GoesOn, IsAheadFault}
 use Rattle.engine_log.specs.Back.{IsBack, IsBackFault}
 use Rattle.engine_log.specs.declared.ahead.AheadFault.{AheadFault}
+use Rattle.engine_log.specs.declared.ahead.EngineLog.{EngineLog}
 use Rattle.engine_log.specs.declared.back.Back.{Back}
 use Rattle.engine_log.specs.declared.back.BackFault.{BackFault}
 use Rattle.embedding.specs.Codes.{ahead_number, back_number, back_place, recover_number, recover_place}
 use Rattle.embedding.specs.Frames.{text_in}
 use Rattle.embedding.specs.Gathering.{HasNothing, IsAsGathered}
 use Rattle.embedding.specs.Serving.{KeepsRequests, IsServed}
-use Rattle.embedding.specs.declared.call.TheConstants.{FILE_AHEAD, FILE_BYTES, FILE_BACK, LOG_ANEW}
-use Rattle.embedding.specs.declared.codes.TheConstants.{BEGUN, MEMORY}
+use Rattle.embedding.specs.declared.call.TheConstants.{FILE_AHEAD, FILE_BYTES, FILE_BACK, LOG_ANEW, SESSION, SET_SESSION}
+use Rattle.embedding.specs.declared.codes.TheConstants.{BAD_FRAME, BEGUN, MEMORY, SESSION_STAYS}
 use Rattle.embedding.specs.declared.filed_part.FiledPart.{FiledPart}
 use Rattle.embedding.specs.declared.frame.Frame.{Frame}
 use Rattle.embedding.specs.declared.tc_part.TcPart.{TcPart}
@@ -77,13 +79,21 @@ pub record IsUnfit (p : TcPart) (back : Back) (code place : ℕ) : Type 0 where
 abbrev pub WhyNotBack : TcPart → Back → ℕ → ℕ → Type 0
 WhyNotBack p back code place = code ≢ MEMORY → IsUnfit p back code place
 
--- the file whose bytes were handed in says nothing yet: it is empty, or the beginning of its own first frame; or it says what happened, and
+-- the session that the file says; where it says none, the one that was set
+abbrev pub kept_session : Option ℕ → Option ℕ → Option ℕ
+kept_session None set = set
+kept_session (Some said) set = Some said
+
+abbrev pub keeping_session : EngineLog → EngineLog → EngineLog
+keeping_session file was = record file { session = kept_session file.session was.session }
+
+-- the file whose bytes were handed in says nothing yet: it is empty, or may be the beginning of a first frame; or it says what happened, and
 -- what is prepared from then on goes on behind its whole frames
 pub data TakesBack (p : FiledPart) (p' : FiledPart) (whole : ℕ) : Type 0 where
-  Unwritten : IsUnwritten (own_header p.part.state) p.part.gathered.bytes.items → p'.part.state ≡ p.part.state
+  Unwritten : MayBegin p.part.gathered.bytes.items → p'.part.state ≡ p.part.state
       → p'.file ≡ p.file → whole ≡ 0 → TakesBack p p' whole
   Written : (back : Back) → IsBack (own_header p.part.state) p.part.gathered.bytes.items back → ComesBack p.part back p'.part
-      → p'.file ≡ back.file → whole ≡ back.whole → TakesBack p p' whole
+      → p'.file ≡ keeping_session back.file p.file → whole ≡ back.whole → TakesBack p p' whole
 
 pub record IsUntaken (p : FiledPart) (code place : ℕ) : Type 0 where
   pub why : BackFault
@@ -105,11 +115,35 @@ pub record HasTaken (p : FiledPart) (p' : FiledPart) (f' : Frame) : Type 0 where
   pub nothing : HasNothing p'.part.gathered
   pub requests : KeepsRequests p.part p'.part
 
+-- ---- the session
+
+-- as the frame says it: none is 0
+abbrev pub session_number : Option ℕ → ℕ
+session_number None = 0
+session_number (Some session) = session
+
+pub record TellsSession (p : FiledPart) (p' : FiledPart) (f' : Frame) : Type 0 where
+  pub told : f'.word ≡ session_number p.file.session
+  pub same : p' ≡ p
+
+-- the next header has the one in the frame
+pub record SetsSession (p : FiledPart) (f : Frame) (p' : FiledPart) : Type 0 where
+  pub unwired : given p.part.state.events ≡ 0
+  pub unsaid : says_session p.file.header ≡ false
+  pub is : p' ≡ record p { file = record p.file { session = Some f.word } }
+
+-- numbers were given out, so that a wire may have one; the file says its session; or the frame has none
+pub data WhyNoSession (p : FiledPart) (f : Frame) (code : ℕ) : Type 0 where
+  Wired : code ≡ SESSION_STAYS → 1 ≤ given p.part.state.events → WhyNoSession p f code
+  Said : code ≡ SESSION_STAYS → says_session p.file.header ≡ true → WhyNoSession p f code
+  NoNumber : code ≡ BAD_FRAME → f.word ≡ 0 → WhyNoSession p f code
+
 -- ---- calls by their numbers
 
--- what is prepared from then on is a new file's
-pub record IsFileAnew (p' : FiledPart) : Type 0 where
+-- what is prepared from then on is a new file's, of the same session
+pub record IsFileAnew (p : FiledPart) (p' : FiledPart) : Type 0 where
   pub unbegun : p'.file.header ≡ None
+  pub session : p'.file.session ≡ p.file.session
   pub nothing : p'.prepared ≡ []
 
 -- neither what is prepared nor how far that is has changed
@@ -119,31 +153,35 @@ pub record HasSameFile (p : FiledPart) (p' : FiledPart) : Type 0 where
 
 -- the calls for the log's file
 abbrev pub is_file_call : ℕ → Bool
-is_file_call what = list_any (λ c. what == c) (FILE_AHEAD ∷ FILE_BYTES ∷ FILE_BACK ∷ [])
+is_file_call what = list_any (λ c. what == c) (FILE_AHEAD ∷ FILE_BYTES ∷ FILE_BACK ∷ SESSION ∷ SET_SESSION ∷ [])
 
 -- what a call that answered 0 makes of the file, by its number
-abbrev pub FiledBy : ℕ → FiledPart → FiledPart → Frame → Type 0
-FiledBy what p p' f' =
+abbrev pub FiledBy : ℕ → FiledPart → Frame → FiledPart → Frame → Type 0
+FiledBy what p f p' f' =
     MatchBool (what == FILE_AHEAD) (Prepares p p' f')
     (MatchBool (what == FILE_BYTES) (HandsOut p p' f')
     (MatchBool (what == FILE_BACK) (HasTaken p p' f')
-    (MatchBool (what == LOG_ANEW) (IsFileAnew p')
-    (HasSameFile p p'))))
+    (MatchBool (what == SESSION) (TellsSession p p' f')
+    (MatchBool (what == SET_SESSION) (SetsSession p f p')
+    (MatchBool (what == LOG_ANEW) (IsFileAnew p p')
+    (HasSameFile p p'))))))
 
 -- why one that is for the file did nothing, by its number
-abbrev pub UnfiledBy : ℕ → FiledPart → ℕ → Frame → Type 0
-UnfiledBy what p code f' =
+abbrev pub UnfiledBy : ℕ → FiledPart → Frame → ℕ → Frame → Type 0
+UnfiledBy what p f code f' =
     MatchBool (what == FILE_AHEAD) (WhyNotPrepared p code)
     (MatchBool (what == FILE_BYTES) ⊥
     (MatchBool (what == FILE_BACK) (WhyNotTaken p code f'.place)
-    ⊤))
+    (MatchBool (what == SESSION) ⊥
+    (MatchBool (what == SET_SESSION) (WhyNoSession p f code)
+    ⊤))))
 
 -- refused means unchanged
 pub record IsFiled (p : FiledPart) (f : Frame) (code : ℕ) (p' : FiledPart) (f' : Frame) : Type 0 where
   pub refused : code ≢ 0 → p'.part.state ≡ p.part.state
   pub kept : code ≢ 0 → HasSameFile p p'
-  pub filed : code ≡ 0 → FiledBy f.what p p' f'
-  pub why : code ≢ 0 → UnfiledBy f.what p code f'
+  pub filed : code ≡ 0 → FiledBy f.what p f p' f'
+  pub why : code ≢ 0 → UnfiledBy f.what p f code f'
   pub rest : code ≢ 0 → is_file_call f.what ≡ true → IsAsGathered p.part.gathered p'.part.gathered × KeepsRequests p.part p'.part
   -- every other call is the transaction component's
   pub served : is_file_call f.what ≡ false → IsServed p.part f code p'.part f'

@@ -146,3 +146,9 @@ pub const FILE_BYTES: u32 = 64;
 
 /// Recovers from the bytes of the log's file, which came as code does.
 pub const FILE_BACK: u32 = 65;
+
+/// The session of the log.
+pub const SESSION: u32 = 66;
+
+/// Gives the log a session.
+pub const SET_SESSION: u32 = 67;

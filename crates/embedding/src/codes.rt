@@ -83,6 +83,8 @@ pub const FILE_NO_BATCH: u32 = 0x4605;
 pub const FILE_FULL: u32 = 0x4606;
 /// F7: the file begins with records of data components.
 pub const FILE_RECORDS: u32 = 0x4607;
+/// F11: the log has a session that stays: its file says it, or wires may have it.
+pub const SESSION_STAYS: u32 = 0x460b;
 /// P1: the name is taken.
 pub const NAME_TAKEN: u32 = 0x5001;
 /// P2: a slot names a data component that isn't there.

@@ -6,9 +6,10 @@ ghost use Rattle.embedding.specs.Gathering.{HasNothing, IsAsGathered};
 ghost use Rattle.embedding.specs.Serving.{KeepsRequests, IsServed};
 ghost use Rattle.embedding.specs.Sound.{IsSoundCore};
 ghost use Rattle.embedding.specs.Filing.{Prepares, WhyNotPrepared, IsNew, TakesBack, HasTaken, WhyNotTaken, IsFileAnew, HasSameFile, IsFiled};
+ghost use Rattle.embedding.specs.Filing.{kept_session, session_number, TellsSession, SetsSession, WhyNoSession};
 
 use crate::call;
-use crate::codes::{self, BEGUN, DONE};
+use crate::codes::{self, BAD_FRAME, BEGUN, DONE, SESSION_STAYS};
 use crate::frame::Frame;
 use crate::prepared::Prepared;
 use crate::tc_part::TcPart;
@@ -23,6 +24,26 @@ pub struct FiledPart {
     prepared: Prepared,
 }
 
+// The session that a file says; where it says none, the one that was set.
+fn kept_session(said: Option<u64>, set: Option<u64>) -> Option<u64>
+    ensures { result ≡ kept_session said set }
+{
+    match said {
+        Some(session) => Some(session),
+        None => set,
+    }
+}
+
+// As the frame says it: none is 0.
+fn session_number(session: Option<u64>) -> u64
+    ensures { result ≡ session_number session }
+{
+    match session {
+        Some(session) => session,
+        None => 0,
+    }
+}
+
 impl FiledPart {
     /// For so many data components: nothing is loaded, and nothing has happened.
     pub fn new(alloc: Global, dcs: u16) -> Result<FiledPart, AllocError>
@@ -34,12 +55,13 @@ impl FiledPart {
         ensures requests { IfOk result (λ p. p.part.requests.items ≡ []) }
         ensures gathered { IfOk result (λ p. HasNothing p.part.gathered) }
         ensures file { IfOk result (λ p. p.file.header ≡ None) }
+        ensures session { IfOk result (λ p. p.file.session ≡ None) }
         ensures prepared { IfOk result (λ p. p.prepared ≡ []) }
     {
         Ok(FiledPart {
             alloc,
             part: TcPart::new(alloc, dcs)?,
-            file: EngineLog::new(alloc),
+            file: EngineLog::new(alloc, None),
             prepared: Prepared::new(alloc),
         })
     }
@@ -101,7 +123,9 @@ impl FiledPart {
             }
             Ok(Some(back)) => {
                 self.part.come_back(&back)?;
+                let session = kept_session(back.file.session(), self.file.session());
                 self.file = back.file;
+                self.file.set_session(session);
                 Ok(back.whole as u64)
             }
             Err(fault) => Err(codes::back_code(fault)),
@@ -128,15 +152,41 @@ impl FiledPart {
         }
     }
 
+    fn session(&self, frame: &mut Frame) -> u32
+        ensures code { result ≡ 0 }
+        ensures done { TellsSession self.now self.now frame.new }
+    {
+        frame.word = session_number(self.file.session());
+        DONE
+    }
+
+    fn set_session(&mut self, frame: &Frame) -> u32
+        ensures done { result ≡ 0 → SetsSession self.old frame.now self.new }
+        ensures refused { result ≢ 0 → self.new ≡ self.old }
+        ensures why { result ≢ 0 → WhyNoSession self.old frame.now result }
+    {
+        if frame.word == 0 {
+            return BAD_FRAME;
+        }
+        if self.part.state().last_number() > 0 {
+            return SESSION_STAYS;
+        }
+        if self.file.says_session() {
+            return SESSION_STAYS;
+        }
+        self.file.set_session(Some(frame.word));
+        DONE
+    }
+
     // What is prepared from then on is a new file's.
     fn begin_anew(&mut self, frame: &mut Frame) -> u32
         ensures served { IsServed self.old.part frame.old result self.new.part frame.new }
-        ensures done { result ≡ 0 → IsFileAnew self.new }
+        ensures done { result ≡ 0 → IsFileAnew self.old self.new }
         ensures file { result ≢ 0 → HasSameFile self.old self.new }
     {
         let code = self.part.serve(frame);
         if code == DONE {
-            self.file = EngineLog::new(self.alloc);
+            self.file = EngineLog::new(self.alloc, self.file.session());
             self.prepared.clear();
         }
         code
@@ -153,6 +203,8 @@ impl FiledPart {
                 DONE
             }
             call::FILE_BACK => self.take_back(frame),
+            call::SESSION => self.session(frame),
+            call::SET_SESSION => self.set_session(frame),
             call::LOG_ANEW => self.begin_anew(frame),
             _ => self.part.serve(frame),
         }

@@ -18,7 +18,7 @@ ghost use Rattle.embedding.specs.Serving.{KeepsRequests, Hears, WhyNotHeard, Red
 ghost use Rattle.embedding.specs.Serving.{SaysBlocked, ShowsEvent, WhyNoEvent, ShowsSite, IsServed, IsRequestOf, HasNoRequest, Recovers};
 ghost use Rattle.embedding.specs.Serving.{WhyNotRecovered, Retakes, WhyNotRetaken, NoneIsOpen, ShowsOpen, SaysHeld, SaysAwaited, NoneWaits};
 ghost use Rattle.embedding.specs.Serving.{ShowsWaiting, HasNoLock, ShowsLock, ShowsResult, WhyNoResult};
-ghost use Rattle.log_file.specs.Reading.{IsBegun as IsUnwritten};
+ghost use Rattle.log_file.specs.Stored.{MayBegin};
 ghost use Rattle.engine_log.specs.Back.{IsBack, IsBackFault};
 ghost use Rattle.embedding.specs.Filing.{own_header, ComesBack, WhyNotBack};
 
@@ -186,7 +186,7 @@ impl TcPart {
 
     /// What the file says whose bytes were handed in.
     pub fn file(&self) -> Result<Option<Back>, BackFault>
-        ensures begun { IfOk result (λ o. IfNone o (IsUnwritten (own_header self.now.state) self.now.gathered.bytes.items)) }
+        ensures begun { IfOk result (λ o. IfNone o (MayBegin self.now.gathered.bytes.items)) }
         ensures back { IfOk result (λ o. IfSome o (IsBack (own_header self.now.state) self.now.gathered.bytes.items)) }
         ensures fault { IfErr result (IsBackFault (own_header self.now.state) self.now.gathered.bytes.items) }
     {

@@ -3,10 +3,10 @@ use Rattle.std.proofs.Common.{◌≡◌, ℕ, Bool, true, false, List, [], ◌�
 use Rattle.tc_log.specs.declared.event.Event.{Event}
 use Rattle.tc_core.specs.Core.{Core, loaded_in}
 use Rattle.log_file.specs.declared.header.Header.{Header}
-use Rattle.log_file.specs.Bytes.{Rows}
+use Rattle.log_file.specs.Bytes.{Rows, of_session}
 use Rattle.log_file.specs.Reading.{IsBehind, begins_anew}
 use Rattle.procedure_digest.specs.Header.{header_of}
-use Rattle.engine_log.specs.Handing.{base_by, base_of, AreFrames, HasNoRecords, IsBegun, HasHandedOut, Nothing, Begun, Fits, IsFor, header_by, GoesOn, IsOneMore}
+use Rattle.engine_log.specs.Handing.{base_by, base_of, AreFrames, HasNoRecords, HasHandedOut, Nothing, Begun, Fits, IsFor, header_by, GoesOn, IsOneMore}
 use Rattle.engine_log.specs.declared.ahead.EngineLog.{EngineLog}
 
 pub on_ok : {T E A B : Type 0} (r : Result T E) → (A → B) → OnOk r A → OnOk r B
@@ -35,10 +35,11 @@ one_header a b same = cc
 
 -- behind a file that is begun
 pub goes_on : (h : Header) (l : EngineLog) (c : Core) (bytes : List ℕ) (new : EngineLog) → l.header ≡ Some h → Fits h l c
-    → new.header ≡ l.header → IsOneMore l c bytes new → GoesOn l c bytes new
-goes_on h l c bytes new is fits same one = record {
+    → new.header ≡ l.header → new.session ≡ l.session → IsOneMore l c bytes new → GoesOn l c bytes new
+goes_on h l c bytes new is fits same session one = record {
   own = subst (λ (o : Option Header). IsFor o l c) (sym is) fits;
-  header = same ∙ (is ∙ ap (λ (o : Option Header). Some (header_by o c)) (sym is));
+  header = same ∙ (is ∙ ap (λ (o : Option Header). Some (header_by o l.session c)) (sym is));
+  session = session;
   handed = handed;
   noted = one.noted;
   nothing = λ other here. one.nothing;
@@ -58,18 +59,20 @@ goes_on h l c bytes new is fits same one = record {
 
 -- a file is begun
 pub begins : (l file new : EngineLog) (c : Core) (front bytes all : List ℕ) → l.header ≡ None
-    → file.header ≡ Some (header_of (loaded_in c)) → AreFrames (header_of (loaded_in c)) (base_of (reverse c.events)) file front []
-    → new.header ≡ file.header → IsOneMore file c bytes new → all ≡ front ++ bytes → GoesOn l c all new
-begins l file new c front bytes all none header frames same one is = record {
+    → file.header ≡ Some (of_session (header_of (loaded_in c)) l.session) → file.session ≡ l.session
+    → AreFrames (of_session (header_of (loaded_in c)) l.session) (base_of (reverse c.events)) file front []
+    → new.header ≡ file.header → new.session ≡ file.session → IsOneMore file c bytes new → all ≡ front ++ bytes → GoesOn l c all new
+begins l file new c front bytes all none header session frames same kept one is = record {
   own = subst (λ (o : Option Header). IsFor o l c) (sym none) tt;
-  header = same ∙ (header ∙ ap (λ (o : Option Header). Some (header_by o c)) (sym none));
+  header = same ∙ (header ∙ ap (λ (o : Option Header). Some (header_by o l.session c)) (sym none));
+  session = kept ∙ session;
   handed = handed;
   noted = one.noted;
   nothing = λ other here. absurd (some_none other (sym none ∙ here));
 }
   where
     h : Header
-    h = header_of (loaded_in c)
+    h = of_session (header_of (loaded_in c)) l.session
 
     events : List Event
     events = reverse c.events

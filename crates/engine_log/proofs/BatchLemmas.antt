@@ -6,12 +6,11 @@ use Rattle.std.proofs.lemmas.List.{length-reverse}
 use Rattle.tc_log.specs.declared.event.Event.{Event}
 use Rattle.tc_log.specs.Printed.{printed}
 use Rattle.tc_core.specs.Core.{Core}
-use Rattle.tc_core.specs.declared.recovery.SiteNote.{SiteNote}
 use Rattle.frame_file.specs.Frame.{framed, IsPayload}
 use Rattle.log_file.specs.declared.header.Header.{Header}
 use Rattle.log_file.specs.declared.note.Note.{Note}
 use Rattle.log_file.specs.Bytes.{Rows, Batch, batch_bytes, notes_of}
-use Rattle.log_file.specs.Reading.{AreNotes, IsBatch, with_note}
+use Rattle.log_file.specs.Reading.{AreNotes, with_note}
 use Rattle.engine_log.specs.Notes.{known_of}
 use Rattle.engine_log.specs.Handing.{AreFrames, IsOneMore}
 use Rattle.engine_log.specs.declared.ahead.EngineLog.{EngineLog}

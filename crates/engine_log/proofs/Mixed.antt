@@ -1,5 +1,5 @@
 -- A list that is gone through from its front, and changed by another.
-use Rattle.std.proofs.Common.{◌≡◌, ℕ, zero, suc, ◌+◌, ◌<◌, List, [], ◌∷◌, length, map, get_or, refl, sym, ap, ap₂, ◌∙◌, arith}
+use Rattle.std.proofs.Common.{◌≡◌, ℕ, zero, suc, ◌<◌, List, [], ◌∷◌, length, map, get_or, refl, ap, arith}
 use Rattle.std.specs.Prelude.{slice_set}
 
 module _ {S N : Type 0} (f : S → N) where

@@ -1,12 +1,12 @@
 -- What was handed out of a log's file.
-use Rattle.std.specs.Prelude.{◌≡◌, ℕ, ◌+◌, ◌≤◌, ◌^◌, List, [], ◌∷◌, ◌++◌, length, drop, map, reverse, Bool, true, false, Option, Some, None}
+use Rattle.std.specs.Prelude.{◌≡◌, ℕ, ◌+◌, ◌≤◌, ◌^◌, List, [], ◌++◌, length, drop, map, reverse, Bool, true, false, Option, Some, None, is_some}
 use Rattle.std.specs.List.{flat_map}
 use Rattle.tc_log.specs.declared.event.Event.{Event}
 use Rattle.tc_log.specs.Printed.{printed}
 use Rattle.tc_core.specs.Core.{Core, loaded_in}
 use Rattle.frame_file.specs.Frame.{frames_from, ArePayloads}
 use Rattle.log_file.specs.declared.header.Header.{Header}
-use Rattle.log_file.specs.Bytes.{Rows, Batch, payloads_of, notes_of, rows_of}
+use Rattle.log_file.specs.Bytes.{Rows, Batch, of_session, payloads_of, notes_of, rows_of}
 use Rattle.log_file.specs.Reading.{AreBatches, IsBehind, begins_anew, last_known}
 use Rattle.procedure_digest.specs.Header.{header_of}
 use Rattle.engine_log.specs.Notes.{known_of}
@@ -62,15 +62,21 @@ abbrev pub IsFor : Option Header → EngineLog → Core → Type 0
 IsFor None l c = Unit {0}
 IsFor (Some h) l c = Fits h l c
 
--- the header that is there, or that of the procedures that are loaded
-abbrev pub header_by : Option Header → Core → Header
-header_by None c = header_of (loaded_in c)
-header_by (Some h) c = h
+-- whether the header that is there says a session
+abbrev pub says_session : Option Header → Bool
+says_session None = false
+says_session (Some h) = is_some h.session
+
+-- the header that is there, or that of the procedures that are loaded and of this session
+abbrev pub header_by : Option Header → Option ℕ → Core → Header
+header_by None session c = of_session (header_of (loaded_in c)) session
+header_by (Some h) session c = h
 
 -- with these bytes behind it the file has all events of the state's log and a last note of each data component that says what is known of it
 pub record GoesOn (l : EngineLog) (c : Core) (bytes : List ℕ) (l' : EngineLog) : Type 0 where
   pub own : IsFor l.header l c
-  pub header : l'.header ≡ Some (header_by l.header c)
+  pub header : l'.header ≡ Some (header_by l.header l.session c)
+  pub session : l'.session ≡ l.session
   pub handed : (file : List ℕ) (before : List Event) → HasHandedOut l file before
       → HasHandedOut l' (file ++ bytes) (before ++ drop (length before) (reverse c.events))
   pub noted : l'.notes.items ≡ map known_of c.sites

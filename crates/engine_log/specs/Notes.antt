@@ -1,6 +1,5 @@
 -- What is noted of a data component.
 use Rattle.std.specs.Prelude.{ℕ, zero, suc, Option, Some, None}
-use Rattle.access_slots.specs.declared.op.News.{News}
 use Rattle.tc_core.specs.declared.recovery.SiteNote.{SiteNote}
 use Rattle.tc_core.specs.declared.recovery.SiteNote.TheVariants.{Untold, Restarted, Up}
 use Rattle.transactions.specs.declared.Redoing.{Redoing}

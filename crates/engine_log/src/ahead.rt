@@ -5,11 +5,11 @@ ghost use Rattle.tc_core.specs.Core.{loaded_in};
 ghost use Rattle.tc_core.specs.declared.recovery.SiteNote.TheVariants.{Untold};
 ghost use Rattle.frame_file.specs.Frame.{framed, IsPayload};
 ghost use Rattle.log_file.specs.declared.header.Header.{Header as HeaderValue};
-ghost use Rattle.log_file.specs.Bytes.{front_of, batch_bytes};
+ghost use Rattle.log_file.specs.Bytes.{of_session, front_of, batch_bytes};
 ghost use Rattle.procedure_digest.specs.Header.{header_of};
 ghost use Rattle.tc_log.specs.declared.event.Event.{Event};
 ghost use Rattle.engine_log.specs.Notes.{known_of};
-ghost use Rattle.engine_log.specs.Handing.{base_of, AreFrames, Fits, GoesOn, IsOneMore, IsAheadFault, IsAppendFault};
+ghost use Rattle.engine_log.specs.Handing.{base_of, says_session, AreFrames, Fits, GoesOn, IsOneMore, IsAheadFault, IsAppendFault};
 ghost use Rattle.engine_log.specs.declared.ahead.AheadFault.TheVariants.{Memory as NoMemory};
 
 use crate::notes::changed;
@@ -17,7 +17,7 @@ use frame_file::write_frame;
 use log_file::{
     Header, Note, based_header_bytes, batch_bytes, begins_anew, header_bytes, take_notes,
 };
-use procedure_digest::header_of;
+use procedure_digest::header_of_session;
 use std::alloc::{AllocError, Global};
 use tc_core::{SiteNote, TcState};
 
@@ -43,6 +43,8 @@ impl From<AllocError> for AheadFault {
 #[derive(Drop)]
 pub struct EngineLog {
     alloc: Global,
+    /// The session that the next header has.
+    session: Option<u64>,
     /// The file's header, once that was handed out.
     header: Option<Header>,
     /// How many frames the file has.
@@ -65,20 +67,27 @@ fn front_bytes(alloc: Global, header: &Header, tc: &TcState) -> Result<Vec<u8>, 
 }
 
 // How far a file is handed out that has its header alone.
-fn begun(alloc: Global, tc: &TcState, out: &mut Vec<u8>) -> Result<EngineLog, AllocError>
-    ensures header { IfOk result (λ l. l.header ≡ Some (header_of (loaded_in tc.now))) }
+fn begun(
+    alloc: Global,
+    session: Option<u64>,
+    tc: &TcState,
+    out: &mut Vec<u8>,
+) -> Result<EngineLog, AllocError>
+    ensures header { IfOk result (λ l. l.header ≡ Some (of_session (header_of (loaded_in tc.now)) session)) }
+    ensures session { IfOk result (λ l. l.session ≡ session) }
     ensures frames { IfOk result (λ l. out.old.items ≡ []
-        → AreFrames (header_of (loaded_in tc.now)) (base_of (reverse tc.now.events)) l out.new.items []) }
+        → AreFrames (of_session (header_of (loaded_in tc.now)) session) (base_of (reverse tc.now.events)) l out.new.items []) }
     ensures one { IfOk result (λ l. l.frames ≡ 1) }
     ensures notes { IfOk result (λ l. length l.notes.items ≡ tc.now.dcs) }
     ensures events { IfOk result (λ l. l.events ≡ 0) }
 {
-    let header = header_of(alloc, tc.procs())?;
+    let header = header_of_session(alloc, tc.procs(), session)?;
     let payload = front_bytes(alloc, &header, tc)?;
     let notes = vec![in alloc; SiteNote::Untold; usize::from(header.dcs)]?;
     write_frame(out, 0, &payload)?;
     Ok(EngineLog {
         alloc,
+        session,
         header: Some(header),
         frames: 1,
         events: 0,
@@ -87,12 +96,14 @@ fn begun(alloc: Global, tc: &TcState, out: &mut Vec<u8>) -> Result<EngineLog, Al
 }
 
 impl EngineLog {
-    /// Nothing is handed out yet. It takes no memory.
-    pub fn new(alloc: Global) -> EngineLog
-        ensures { result.header ≡ None }
+    /// Nothing is handed out yet of this session. It takes no memory.
+    pub fn new(alloc: Global, session: Option<u64>) -> EngineLog
+        ensures header { result.header ≡ None }
+        ensures session { result.session ≡ session }
     {
         EngineLog {
             alloc,
+            session,
             header: None,
             frames: 0,
             events: 0,
@@ -100,7 +111,7 @@ impl EngineLog {
         }
     }
 
-    /// Of a file with this header, so many frames and events, and these notes.
+    /// Of a file with this header and its session, so many frames and events, and these notes.
     pub(crate) fn behind(
         alloc: Global,
         header: Header,
@@ -109,16 +120,42 @@ impl EngineLog {
         notes: Vec<SiteNote>,
     ) -> EngineLog
         ensures header { result.header ≡ Some header }
+        ensures session { result.session ≡ header.session }
         ensures frames { result.frames ≡ frames }
         ensures events { result.events ≡ events }
         ensures notes { result.notes ≡ notes }
     {
         EngineLog {
             alloc,
+            session: header.session,
             header: Some(header),
             frames,
             events,
             notes,
+        }
+    }
+
+    /// The session that the next header has.
+    pub fn session(&self) -> Option<u64>
+        ensures { result ≡ self.now.session }
+    {
+        self.session
+    }
+
+    /// The next header has this session.
+    pub fn set_session(&mut self, session: Option<u64>)
+        ensures { self.new ≡ record self.old { session = session } }
+    {
+        self.session = session;
+    }
+
+    /// Whether the header that was handed out says a session.
+    pub fn says_session(&self) -> bool
+        ensures { result ≡ says_session self.now.header }
+    {
+        match &self.header {
+            Some(header) => header.session.is_some(),
+            None => false,
         }
     }
 
@@ -153,7 +190,7 @@ impl EngineLog {
     {
         let Some(header) = &self.header else {
             let mut bytes = Vec::new(self.alloc);
-            let mut file = begun(self.alloc, tc, &mut bytes)?;
+            let mut file = begun(self.alloc, self.session, tc, &mut bytes)?;
             file.append(tc, &mut bytes)?;
             out.extend_from_slice(&bytes)?;
             *self = file;
@@ -169,6 +206,7 @@ impl EngineLog {
     fn append(&mut self, tc: &TcState, out: &mut Vec<u8>) -> Result<(), AheadFault>
         requires { length self.old.notes.items ≡ tc.now.dcs }
         ensures header { self.new.header ≡ self.old.header }
+        ensures session { self.new.session ≡ self.old.session }
         ensures one_more { OnOk result ((bytes : List ℕ) × (out.new.items ≡ out.old.items ++ bytes) × IsOneMore self.old tc.now bytes self.new) }
         ensures refused { OnErr result ((self.new ≡ self.old) × (out.new.items ≡ out.old.items)) }
         ensures why { IfErr result (IsAppendFault self.old) }

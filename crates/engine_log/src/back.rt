@@ -1,13 +1,13 @@
 // What a file says, for a state to come back with.
 
-ghost use Rattle.std.specs.Prelude.{◌≡◌, ◌≢◌, ◌↔◌, ℕ, List, [], Some, reverse, IsTrue, IsFalse, IfOk, IfErr, IfSome, IfNone};
-ghost use Rattle.frame_file.specs.Reading.{IsFound, payloads_in};
+ghost use Rattle.std.specs.Prelude.{◌≡◌, ◌≢◌, ◌↔◌, ◌≤◌, ◌-◌, ℕ, List, [], Some, length, IsTrue, IsFalse, IfOk, IfErr, IfSome, IfNone};
 ghost use Rattle.frame_file.specs.declared.device.DeviceError.TheVariants.{Memory};
 ghost use Rattle.frame_file.specs.declared.reading.FrameFault.TheVariants.{Device};
-ghost use Rattle.log_file.specs.declared.reading.OpenFault.TheVariants.{Frames, Other};
-ghost use Rattle.log_file.specs.Bytes.{Rows};
+ghost use Rattle.log_file.specs.declared.reading.OpenFault.TheVariants.{Frames};
+ghost use Rattle.log_file.specs.declared.header.Header.{Header as HeaderValue};
+ghost use Rattle.log_file.specs.Bytes.{Rows, of_session};
 ghost use Rattle.log_file.specs.Found.{base_in};
-ghost use Rattle.log_file.specs.Reading.{Says, IsBegun, IsOpenFault};
+ghost use Rattle.log_file.specs.Stored.{MayBegin, IsStored};
 ghost use Rattle.procedure_digest.specs.Header.{header_of};
 ghost use Rattle.tc_core.specs.Core.{loaded_in};
 ghost use Rattle.engine_log.specs.Handing.{HasNoRecords};
@@ -15,9 +15,9 @@ ghost use Rattle.engine_log.specs.Back.{IsBack, HasRecords, IsBackFault};
 ghost use Rattle.engine_log.specs.declared.back.BackFault.TheVariants.{Unread};
 
 use crate::ahead::EngineLog;
-use frame_file::{DeviceError, Found, FrameFault, read_frames};
-use log_file::{BaseRow, Header, OpenFault, Recovered, read_file, read_own};
-use procedure_digest::header_of;
+use frame_file::{DeviceError, FrameFault};
+use log_file::{BaseRow, Header, OpenFault, Stored, read_file};
+use procedure_digest::header_of_session;
 use std::alloc::{AllocError, Global};
 use tc_core::TcState;
 use tc_log::log::Log;
@@ -41,14 +41,6 @@ impl From<AllocError> for BackFault {
     }
 }
 
-impl From<FrameFault> for BackFault {
-    ghost from_gives = { λ fault e. e ≡ Unread (Frames fault) };
-
-    fn from(fault: FrameFault) -> Self {
-        BackFault::Unread(OpenFault::Frames(fault))
-    }
-}
-
 /// What a file says.
 #[derive(Drop)]
 pub struct Back {
@@ -65,17 +57,6 @@ fn is_same(header: &Header, other: &Header) -> bool
     header == other
 }
 
-// Why a file isn't read that doesn't begin with this header.
-fn not_own(alloc: Global, header: &Header, bytes: &[u8]) -> BackFault
-    requires { IsOpenFault header.now bytes.now Other }
-    ensures { IsBackFault header.now bytes.now result }
-{
-    match read_file(alloc, bytes) {
-        Ok(stored) if !is_same(&stored.header, header) => BackFault::Others,
-        _ => BackFault::Unread(OpenFault::Other),
-    }
-}
-
 // Whether a log begins with records of data components.
 fn has_records(base: &Option<Vec<BaseRow>>) -> bool
     ensures no { IsFalse result → HasNoRecords (base_in base.now) }
@@ -87,43 +68,49 @@ fn has_records(base: &Option<Vec<BaseRow>>) -> bool
     }
 }
 
-// What goes on behind the frames that were found, unless their log begins with records.
-fn behind(alloc: Global, header: Header, found: &Found, recovered: Recovered) -> Option<Back>
-    requires { Says header (payloads_in found.now.payloads.items) (base_in recovered.base) recovered.notes.items (reverse recovered.log.events) }
-    ensures back { (bytes : List ℕ) → IsFound bytes found.now → IfSome result (IsBack header bytes) }
-    ensures records { (bytes : List ℕ) → IsFound bytes found.now → IfNone result (HasRecords header bytes) }
+// What goes on behind so many whole bytes of the file, unless its log begins with records.
+fn behind(alloc: Global, whole: usize, stored: Stored) -> Option<Back>
+    ensures back { (h : HeaderValue) (bytes : List ℕ) → IsStored bytes stored → stored.header ≡ of_session h stored.header.session
+        → whole ≡ length bytes - stored.unfinished → IfSome result (IsBack h bytes) }
+    ensures records { (h : HeaderValue) (bytes : List ℕ) → IsStored bytes stored → stored.header ≡ of_session h stored.header.session
+        → IfNone result (HasRecords h bytes) }
 {
-    let Recovered { base, log, notes } = recovered;
+    let Stored {
+        header,
+        base,
+        log,
+        notes,
+        frames,
+        unfinished: _,
+    } = stored;
     if has_records(&base) {
         return None;
     }
-    let frames = found.payloads.len() as u64;
-    let file = EngineLog::behind(alloc, header, frames, log.len(), notes);
-    Some(Back {
-        log,
-        whole: found.end,
-        file,
-    })
+    let file = EngineLog::behind(alloc, header, frames as u64, log.len(), notes);
+    Some(Back { log, whole, file })
 }
 
 impl EngineLog {
-    /// What the bytes of a file say, for [`TcState::recover`] on this state, in which nothing has happened yet: nothing where it is empty, or the
-    /// beginning of its own first frame.
+    /// What the bytes of a file say, for [`TcState::recover`] on this state, in which nothing has happened yet: nothing where it is empty, or
+    /// may be the beginning of a first frame.
     pub fn read(alloc: Global, tc: &TcState, bytes: &[u8]) -> Result<Option<Back>, BackFault>
-        ensures begun { IfOk result (λ o. IfNone o (IsBegun (header_of (loaded_in tc.now)) bytes.now)) }
+        ensures begun { IfOk result (λ o. IfNone o (MayBegin bytes.now)) }
         ensures back { IfOk result (λ o. IfSome o (IsBack (header_of (loaded_in tc.now)) bytes.now)) }
         ensures fault { IfErr result (IsBackFault (header_of (loaded_in tc.now)) bytes.now) }
     {
-        let header = header_of(alloc, tc.procs())?;
-        let found = read_frames(alloc, bytes)?;
-        match read_own(alloc, &header, bytes, &found) {
-            Ok(None) => Ok(None),
-            Ok(Some(recovered)) => match behind(alloc, header, &found, recovered) {
-                Some(back) => Ok(Some(back)),
-                None => Err(BackFault::Records),
-            },
-            Err(OpenFault::Other) => Err(not_own(alloc, &header, bytes)),
-            Err(fault) => Err(BackFault::Unread(fault)),
+        let stored = match read_file(alloc, bytes) {
+            Ok(stored) => stored,
+            Err(OpenFault::Empty) => return Ok(None),
+            Err(fault) => return Err(BackFault::Unread(fault)),
+        };
+        let own = header_of_session(alloc, tc.procs(), stored.header.session)?;
+        if !is_same(&stored.header, &own) {
+            return Err(BackFault::Others);
+        }
+        let whole = bytes.len() - stored.unfinished;
+        match behind(alloc, whole, stored) {
+            Some(back) => Ok(Some(back)),
+            None => Err(BackFault::Records),
         }
     }
 }

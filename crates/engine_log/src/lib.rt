@@ -6,7 +6,7 @@
 //! tc.recover(&log, file.notes())?;         // and then the engine's file is cut to so many whole bytes
 //! file.ahead(&tc, &mut out)?;              // what changed: to be synced before a wire goes, or an end is told
 //! tc.checkpoint(&kept)?;
-//! file = EngineLog::new(alloc);            // further bytes are a new file's, to take the old one's place
+//! file = EngineLog::new(alloc, session);   // further bytes are a new file's, to take the old one's place
 //! ```
 //!
 //! Between a checkpoint and the moment when the new file stands in the old one's place, nothing is sent or told: the new file

@@ -11,7 +11,7 @@ use Rattle.transactions.specs.declared.Site.{Site}
 use Rattle.verifier.specs.Checked.{Checked}
 use Rattle.frame_file.specs.Reading.{Reads}
 use Rattle.log_file.specs.declared.header.Header.{Header}
-use Rattle.log_file.specs.Bytes.{Rows}
+use Rattle.log_file.specs.Bytes.{Rows, of_session}
 use Rattle.log_file.specs.Reading.{IsBase, IsStart, Says}
 use Rattle.engine_log.specs.Notes.{known_by, known_of}
 use Rattle.engine_log.specs.Handing.{HasNoRecords, HasHandedOut, IsBegun, Nothing, Begun}
@@ -88,5 +88,5 @@ read_so h bytes payloads base notes events reads says = record {
 }
 
 pub read_as : (h : Header) (bytes : List ℕ) (b : Back) → IsBack h bytes b
-    → IsReadAs h bytes (record { events = b.log.events; notes = b.file.notes.items })
-read_as h bytes b back = read_so h bytes back.payloads back.base b.file.notes.items b.log.events back.reads back.says
+    → IsReadAs (of_session h b.file.session) bytes (record { events = b.log.events; notes = b.file.notes.items })
+read_as h bytes b back = read_so (of_session h b.file.session) bytes back.payloads back.base b.file.notes.items b.log.events back.reads back.says

@@ -15,7 +15,7 @@ ghost use Rattle.serial.specs.Audit.{IsAgreed};
 ghost use Rattle.frame_file.specs.Reading.{Reads};
 ghost use Rattle.tc_core.specs.declared.recovery.SiteNote.{SiteNote};
 ghost use Rattle.log_file.specs.declared.header.Header.{Header};
-ghost use Rattle.log_file.specs.Bytes.{Batch, notes_of as notes_in, rows_of};
+ghost use Rattle.log_file.specs.Bytes.{Batch, of_session, notes_of as notes_in, rows_of};
 ghost use Rattle.log_file.specs.Reading.{IsStart, IsBehind, IsBatch, AreBatches, with_note, last_known};
 ghost use Rattle.tc_world.specs.Whole.{Whole};
 ghost use Rattle.tc_world.specs.Steps.{Steps};
@@ -99,5 +99,5 @@ pub fn handed_out_tells()
         → IsFileOf h bytes (record { events = log; notes = l.notes.items }) }
     ensures known { (w : Whole) → map known_of w.core.sites ≡ notes_of w }
     ensures read { (h : Header) (bytes : List ℕ) (b : Back) → IsBack h bytes b
-        → IsReadAs h bytes (record { events = b.log.events; notes = b.file.notes.items }) }
+        → IsReadAs (of_session h b.file.session) bytes (record { events = b.log.events; notes = b.file.notes.items }) }
 {}

@@ -46,14 +46,14 @@ listed_is part rows file s (Ok r) is lines status = Listed s is lines status
 listed_is part rows file s (Err e) is lines status = tt
 
 pub anothers_is : {E : Type 0} (file : List ℕ) (start : Core) (empties : List Store) (s : Stored) (result : Result Output E) → IsStored file s
-    → ¬ (s.header ≡ header_of (loaded_in start)) → IfOk result (λ r. string_bytes r.lines ≡ other_line s.header (header_of (loaded_in start)))
+    → ¬ (s.header ≡ own_header start s) → IfOk result (λ r. string_bytes r.lines ≡ other_line s.header (own_header start s))
     → IfOk result (λ r. r.status ≡ 1)
     → IfOk result (λ r. IsBeside file start empties r.status (string_bytes r.lines))
 anothers_is file start empties s (Ok r) is differs line status = Anothers s is differs line status
 anothers_is file start empties s (Err e) is differs line status = tt
 
 pub own_is : {E : Type 0} (file : List ℕ) (start : Core) (empties : List Store) (s : Stored) (result : Result Output E) → IsStored file s
-    → s.header ≡ header_of (loaded_in start) → IfOk result (λ r. IsChecked start empties s r.status (string_bytes r.lines))
+    → s.header ≡ own_header start s → IfOk result (λ r. IsChecked start empties s r.status (string_bytes r.lines))
     → IfOk result (λ r. IsBeside file start empties r.status (string_bytes r.lines))
 own_is file start empties s result is same checked = IfOk-weaker result _ _ (λ r c. Own s is same c) checked
 

@@ -4,7 +4,9 @@ use Rattle.tc_log.specs.declared.event.Event.{Event}
 use Rattle.frame_file.specs.declared.reading.FrameFault.TheVariants.{Damaged}
 use Rattle.log_file.specs.declared.reading.OpenFault.{OpenFault}
 use Rattle.log_file.specs.declared.reading.OpenFault.TheVariants.{Frames, Empty, Other, NoBase, NoBatch, Row}
+use Rattle.log_file.specs.declared.header.Header.{Header}
 use Rattle.log_file.specs.declared.stored.Stored.{Stored}
+use Rattle.log_file.specs.Bytes.{of_session}
 use Rattle.log_file.specs.Stored.{IsStored, IsFileFault}
 use Rattle.log_file.specs.Found.{base_in}
 use Rattle.verifier.specs.Checked.{Checked}
@@ -122,12 +124,16 @@ pub data IsChecked (start : Core) (empties : List Store) (s : Stored) (status : 
   Audited : (begun dcs : List Store) → HaveBegun (base_in s.base) (reverse s.log.events) empties begun
       → AreBrought start begun s.log.events dcs → AreAuditLines start.procs s dcs status lines → IsChecked start empties s status lines
 
+-- that of these procedures, and of the session that the file says
+abbrev pub own_header : Core → Stored → Header
+own_header start s = of_session (header_of (loaded_in start)) s.header.session
+
 -- the file isn't read, it is another's log, or a log of these procedures
 pub data IsBeside (file : List ℕ) (start : Core) (empties : List Store) (status : ℕ) (lines : List ℕ) : Type 0 where
   NotRead : IsUnread file status lines → IsBeside file start empties status lines
-  Anothers : (s : Stored) → IsStored file s → ¬ (s.header ≡ header_of (loaded_in start))
-      → lines ≡ other_line s.header (header_of (loaded_in start)) → status ≡ 1 → IsBeside file start empties status lines
-  Own : (s : Stored) → IsStored file s → s.header ≡ header_of (loaded_in start) → IsChecked start empties s status lines
+  Anothers : (s : Stored) → IsStored file s → ¬ (s.header ≡ own_header start s)
+      → lines ≡ other_line s.header (own_header start s) → status ≡ 1 → IsBeside file start empties status lines
+  Own : (s : Stored) → IsStored file s → s.header ≡ own_header start s → IsChecked start empties s status lines
       → IsBeside file start empties status lines
 
 abbrev pub IsAuditBy : Option (List ℕ) → Contents → List ℕ → ℕ → List ℕ → Type 0

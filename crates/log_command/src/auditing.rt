@@ -15,7 +15,7 @@ use base_records::begin;
 use coming_back::{ComeBackFault, bring_back};
 use data_component::dc::Dc;
 use log_file::{Stored, read_file};
-use procedure_digest::header_of;
+use procedure_digest::header_of_session;
 use report_texts::output::Output;
 use script_loading::loading::{Loading, Source, load_source};
 use scripts::keyword::Command;
@@ -50,7 +50,7 @@ fn audited(alloc: Global, procs: &Procs, stored: &Stored, dcs: &[Dc]) -> Result<
     })
 }
 
-// A log whose header is that of the state's procedures, and the data components that it left: they begin with
+// A log whose header is that of the state's procedures, whichever its session, and the data components that it left: they begin with
 // the rows with which it does.
 fn checked(
     alloc: Global,
@@ -84,7 +84,7 @@ fn stored_beside(
     requires empty { All HasOnlyRows dcs.old }
     ensures { (file : List ℕ) → IsStored file stored.now → IfOk result (λ r. IsBeside file state.old dcs.old r.status (string_bytes r.lines)) }
 {
-    let header = header_of(alloc, state.procs())?;
+    let header = header_of_session(alloc, state.procs(), stored.header.session)?;
     if stored.header == header {
         checked(alloc, state, dcs, stored)
     } else {

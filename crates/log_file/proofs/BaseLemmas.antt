@@ -11,7 +11,7 @@ use Rattle.std.proofs.Math.Nat.{min-eq_left, min-eq_right}
 use Rattle.access_slots.specs.declared.slot.Record.{Record}
 use Rattle.access_slots.specs.Locks.{record_less}
 use Rattle.log_file.specs.declared.header.Header.{Header}
-use Rattle.log_file.specs.Bytes.{Rows, row_bytes, part_bytes, first_parts, parts_of, front_bytes, header_bytes, based_header_bytes, front_of}
+use Rattle.log_file.specs.Bytes.{Rows, row_bytes, part_bytes, first_parts, parts_of, front_bytes, based_version, session_bytes, own_bytes, plain_version, header_bytes, based_header_bytes, front_of}
 use Rattle.log_file.specs.Reading.{IsRow, AreRows, Rise, IsStart, GoesOn, IsFirstNoPart}
 use Rattle.log_file.specs.Joining.Fields.{row_in, rows_in, IsPart, IsAdded, NoneAdded}
 
@@ -326,7 +326,7 @@ stops_short count number payloads rest base was fewer at none =
 pub count_back : (h : Header) (m n : ℕ) → m < 2 ^ 64 → n < 2 ^ 64 → based_header_bytes h m ≡ based_header_bytes h n → m ≡ n
 unfolding based_header_bytes
 count_back h m n few also same =
-    let front = (front_bytes 2 h ++ h.digest) in
+    let front = own_bytes (based_version h.session) h in
     let tails : to_le_bytes w64 m ≡ to_le_bytes w64 n
     = sym (drop_at front (to_le_bytes w64 m) (length front) refl)
     ∙ (ap (λ (l : List ℕ). drop (length front) l) same ∙ drop_at front (to_le_bytes w64 n) (length front) refl) in
@@ -336,16 +336,24 @@ length_front : (version : ℕ) (h : Header) → length (front_bytes version h) �
 unfolding front_bytes
 length_front version h = refl
 
-length_layout : (version : ℕ) (h : Header) → length (front_bytes version h ++ h.digest) ≡ 32 + length h.digest
-length_layout version h = omega (arith, length-append (front_bytes version h) h.digest, length_front version h)
+length_own : (version : ℕ) (h : Header) → length (own_bytes version h) ≡ 32 + length h.digest + length (session_bytes h.session)
+unfolding own_bytes
+length_own version h =
+    omega (
+      arith,
+      length-append (front_bytes version h ++ h.digest) (session_bytes h.session),
+      length-append (front_bytes version h) h.digest,
+      length_front version h,
+    )
 
-pub length_plain : (h : Header) → length (header_bytes h) ≡ 32 + length h.digest
+pub length_plain : (h : Header) → length (header_bytes h) ≡ 32 + length h.digest + length (session_bytes h.session)
 unfolding header_bytes
-length_plain h = omega (arith, length_layout 1 h)
+length_plain h = length_own (plain_version h.session) h
 
-pub length_based : (h : Header) (n : ℕ) → length (based_header_bytes h n) ≡ 40 + length h.digest
+pub length_based : (h : Header) (n : ℕ) → length (based_header_bytes h n) ≡ 40 + length h.digest + length (session_bytes h.session)
 unfolding based_header_bytes
-length_based h n = omega (arith, length_layout 2 h, length-append ((front_bytes 2 h ++ h.digest)) (to_le_bytes w64 n))
+length_based h n =
+    omega (arith, length_own (based_version h.session) h, length-append (own_bytes (based_version h.session) h) (to_le_bytes w64 n))
 
 pub never_both : (h : Header) (n : ℕ) → header_bytes h ≡ based_header_bytes h n → ⊥
 never_both h n same = omega (arith, ap length same, length_plain h, length_based h n)
@@ -354,7 +362,7 @@ never_both h n same = omega (arith, ap length same, length_plain h, length_based
 pub count_at : (h : Header) (n k : ℕ) (p : List ℕ) → n < 2 ^ 64 → p ≡ based_header_bytes h n → k ≡ length p - 8 → from_le_bytes w64 (drop k p) ≡ n
 unfolding based_header_bytes
 count_at h n k p few is at =
-    let front = (front_bytes 2 h ++ h.digest) in
+    let front = own_bytes (based_version h.session) h in
     let long : length front ≡ k = (let len = ap length is in omega (arith, at, len, length-append front (to_le_bytes w64 n))) in
     ap (λ (l : List ℕ). from_le_bytes w64 (drop k l)) is
     ∙ (ap (from_le_bytes w64) (drop_at front (to_le_bytes w64 n) k long) ∙ from_le_bytes-to_le_bytes_8 n few)

@@ -10,7 +10,7 @@ use Rattle.frame_file.specs.Frame.{head_bytes, checksum, framed, frames_from}
 use Rattle.frame_file.specs.Reading.{IsBeforeOrAfter}
 use Rattle.frame_file.proofs.Frames.{length-head}
 use Rattle.log_file.specs.declared.header.Header.{Header}
-use Rattle.log_file.specs.Bytes.{Rows, Batch, front_bytes, based_header_bytes, payloads_of}
+use Rattle.log_file.specs.Bytes.{Rows, Batch, based_version, session_bytes, own_bytes, based_header_bytes, payloads_of}
 use Rattle.log_file.specs.Reading.{IsFront}
 use Rattle.log_file.specs.Replacement.{are_left, may_be_left}
 use Rattle.log_file.proofs.BaseLemmas.{length_based}
@@ -109,27 +109,28 @@ own_left (w ∷ written) more =
 
 -- ---- a file that is begun anew
 
-frame_parts : (p : List ℕ) → length p ≡ 72 → framed 0 p ≡ (to_le_bytes w64 0 ++ to_le_bytes w64 72) ++ (to_le_bytes w64 (checksum 0 p) ++ p)
+frame_parts : (p : List ℕ) (n : ℕ) → length p ≡ n → framed 0 p ≡ (to_le_bytes w64 0 ++ to_le_bytes w64 n) ++ (to_le_bytes w64 (checksum 0 p) ++ p)
 unfolding head_bytes
-frame_parts p size =
+frame_parts p n size =
     append_assoc (to_le_bytes w64 0 ++ to_le_bytes w64 (length p)) (to_le_bytes w64 (checksum 0 p)) p
     ∙ ap (λ (m : ℕ). (to_le_bytes w64 0 ++ to_le_bytes w64 m) ++ (to_le_bytes w64 (checksum 0 p) ++ p)) size
 
 header_left : (h : Header) (n : ℕ) (there : List ℕ) → are_left (based_header_bytes h n) there ≡ true
-    → are_left (front_bytes 2 h ++ h.digest) there ≡ true
+    → are_left (own_bytes (based_version h.session) h) there ≡ true
 unfolding based_header_bytes
-header_left h n there left = less_left (front_bytes 2 h ++ h.digest) (to_le_bytes w64 n) there left
+header_left h n there left = less_left (own_bytes (based_version h.session) h) (to_le_bytes w64 n) there left
 
 frame_left : (h : Header) (n : ℕ) (file : List ℕ) → length h.digest ≡ 32 → are_left (framed 0 (based_header_bytes h n)) file ≡ true
     → may_be_left h file ≡ true
 frame_left h n file digest left =
     let p = based_header_bytes h n in
-    let size : length p ≡ 72 = omega (arith, length_based h n, digest) in
-    let numbered = less_left (to_le_bytes w64 0 ++ to_le_bytes w64 72) (to_le_bytes w64 (checksum 0 p) ++ p) file
-    (subst (λ (w : List ℕ). are_left w file ≡ true) (frame_parts p size) left) in
+    let long = 72 + length (session_bytes h.session) in
+    let size : length p ≡ 72 + length (session_bytes h.session) = omega (arith, length_based h n, digest) in
+    let numbered = less_left (to_le_bytes w64 0 ++ to_le_bytes w64 long) (to_le_bytes w64 (checksum 0 p) ++ p) file
+    (subst (λ (w : List ℕ). are_left w file ≡ true) (frame_parts p long size) left) in
     let behind = subst (λ (w : List ℕ). are_left w (drop 24 file) ≡ true) (drop_at (head_bytes 0 p) p 24 (length-head 0 p))
     (behind_left 24 (framed 0 p) file left) in
-    and_from (are_left (to_le_bytes w64 0 ++ to_le_bytes w64 72) file) (are_left (front_bytes 2 h ++ h.digest) (drop 24 file))
+    and_from (are_left (to_le_bytes w64 0 ++ to_le_bytes w64 long) file) (are_left (own_bytes (based_version h.session) h) (drop 24 file))
     numbered (header_left h n (drop 24 file) behind)
 
 first_left : (head : List ℕ) (rest before : List (List ℕ)) (payload : List ℕ) (after : List (List ℕ)) (file : List ℕ)

@@ -1,15 +1,19 @@
 -- A file that is read by itself.
-use Rattle.std.proofs.Common.{arith, ◌≡◌, inl, ℕ, ◌+◌, ◌-◌, ◌≤◌, List, [], ◌∷◌, length, refl, sym, ◌∙◌, ap, subst, length-append}
-use Rattle.frame_file.specs.Frame.{frames_from}
-use Rattle.frame_file.specs.Reading.{Reads, IsReadFault}
+use Rattle.std.proofs.Common.{arith, ◌≡◌, inl, ℕ, ◌+◌, ◌-◌, ◌≤◌, List, [], ◌∷◌, length, reverse, refl, sym, ◌∙◌, ap, subst, length-append}
+use Rattle.frame_file.specs.Frame.{frames_from, IsEnd}
+use Rattle.frame_file.specs.Reading.{Reads, IsReadFault, IsFound, payloads_in}
+use Rattle.frame_file.specs.declared.reading.Found.{Found}
+use Rattle.frame_file.proofs.Readings.{count_payloads}
 use Rattle.frame_file.specs.declared.device.DeviceError.TheVariants.{Memory}
 use Rattle.frame_file.specs.declared.reading.FrameFault.{FrameFault}
 use Rattle.frame_file.specs.declared.reading.FrameFault.TheVariants.{Device}
 use Rattle.log_file.specs.declared.header.Header.{Header}
 use Rattle.log_file.specs.declared.reading.OpenFault.{OpenFault}
 use Rattle.log_file.specs.declared.reading.OpenFault.TheVariants.{Frames, Empty, Other, NoBase, NoBatch, Row}
-use Rattle.log_file.specs.Reading.{IsHead, IsSayFault}
-use Rattle.log_file.specs.Stored.{IsFileFault}
+use Rattle.log_file.specs.declared.stored.Stored.{Stored}
+use Rattle.log_file.specs.Found.{base_in}
+use Rattle.log_file.specs.Reading.{IsHead, IsSayFault, Says}
+use Rattle.log_file.specs.Stored.{IsStored, IsFileFault}
 use Rattle.log_file.specs.Joining.Fields.{BeginsWith}
 use Rattle.log_file.proofs.HeaderLemmas.{other_none}
 
@@ -49,3 +53,17 @@ ends_inside file payloads end reads is =
 pub rest_is : (file : List ℕ) (payloads : List (List ℕ)) (end left : ℕ) → Reads file payloads → end ≡ length (frames_from 0 payloads) → left ≡ length file - end
     → length file ≡ length (frames_from 0 payloads) + left
 rest_is file payloads end left reads is left_is = omega (arith, is, left_is, ends_inside file payloads end reads is)
+
+pub is_stored : (file : List ℕ) (found : Found) (s : Stored) → IsFound file found
+    → Says s.header (payloads_in found.payloads.items) (base_in s.base) s.notes.items (reverse s.log.events)
+    → s.frames ≡ length found.payloads.items → s.unfinished ≡ length file - found.end → IsStored file s
+is_stored file found s is says frames left =
+    let vecs = found.payloads.items in
+    record {
+      payloads = payloads_in vecs;
+      reads = is.reads;
+      says = says;
+      frames = frames ∙ sym (count_payloads vecs);
+      unfinished = rest_is file (payloads_in vecs) found.end s.unfinished is.reads is.end left;
+      ends = subst (λ (n : ℕ). IsEnd n is.reads.rest) (sym (count_payloads vecs)) is.ends;
+    }

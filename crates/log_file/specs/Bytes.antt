@@ -13,13 +13,35 @@ unfoldable pub front_bytes : ℕ → Header → List ℕ
 front_bytes version h =
     ((to_le_bytes w64 0x6570_6c75_7a7a_616d ++ to_le_bytes w64 version) ++ to_le_bytes w64 h.dcs) ++ to_le_bytes w64 h.procedures
 
--- and then the procedures' digest
-unfoldable pub header_bytes : Header → List ℕ
-header_bytes h = front_bytes 1 h ++ h.digest
+-- this header, with a session or without one
+abbrev pub of_session : Header → Option ℕ → Header
+of_session h session = record h { session = session }
 
--- and in layout 2 how many base records there are
+-- of a log that begins at the beginning: 1, and with a session 3
+abbrev pub plain_version : Option ℕ → ℕ
+plain_version None = 1
+plain_version (Some session) = 3
+
+-- of one that begins behind an earlier one: 2, and with a session 4
+abbrev pub based_version : Option ℕ → ℕ
+based_version None = 2
+based_version (Some session) = 4
+
+abbrev pub session_bytes : Option ℕ → List ℕ
+session_bytes None = []
+session_bytes (Some session) = to_le_bytes w64 session
+
+-- and then the procedures' digest, and the session
+unfoldable pub own_bytes : ℕ → Header → List ℕ
+own_bytes version h = (front_bytes version h ++ h.digest) ++ session_bytes h.session
+
+-- in layouts 1 and 3
+unfoldable pub header_bytes : Header → List ℕ
+header_bytes h = own_bytes (plain_version h.session) h
+
+-- and in layouts 2 and 4 how many base records there are
 unfoldable pub based_header_bytes : Header → ℕ → List ℕ
-based_header_bytes h rows = (front_bytes 2 h ++ h.digest) ++ to_le_bytes w64 rows
+based_header_bytes h rows = own_bytes (based_version h.session) h ++ to_le_bytes w64 rows
 
 -- ---- base records: what data components begin with, where the log begins behind an earlier one
 
@@ -79,7 +101,7 @@ batch_bytes b = (to_le_bytes w64 (length b.notes) ++ flat_map note_bytes b.notes
 
 -- ---- a file
 
--- the header's, of layout 2 where there is a base, and then the base's
+-- the header's, of layout 2 or 4 where there is a base, and then the base's
 abbrev pub front_of : Header → Option Rows → List (List ℕ)
 front_of h None = header_bytes h ∷ []
 front_of h (Some base) = based_header_bytes h (length base) ∷ map part_bytes (parts_of base)

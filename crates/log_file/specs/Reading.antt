@@ -22,11 +22,17 @@ use Rattle.log_file.specs.Bytes.{Rows, Batch, part_bytes, parts_of, batch_bytes,
 
 -- ---- headers and batches as they are written
 
+-- a number of machines
+abbrev pub IsSession : Option ℕ → Type 0
+IsSession None = Unit {0}
+IsSession (Some session) = session < 2 ^ 64
+
 pub record IsHeader (h : Header) : Type 0 where
   pub dcs : h.dcs < 2 ^ 64
   pub procedures : h.procedures < 2 ^ 64
+  pub session : IsSession h.session
 
--- the payload is this header's, in one of the two layouts
+-- the payload is this header's, with a base or without one
 abbrev pub IsHead : Header → List ℕ → Type 0
 IsHead h first = (first ≡ header_bytes h) ⊎ ((rows : ℕ) × (rows < 2 ^ 64) × (first ≡ based_header_bytes h rows))
 

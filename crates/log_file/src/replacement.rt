@@ -3,7 +3,7 @@
 ghost use Rattle.std.specs.Prelude.{◌≡◌, drop, IfOk};
 ghost use Rattle.log_file.specs.Replacement.{are_left, may_be_left};
 
-use crate::header::{BASED_FRONT, Header, based_front_bytes};
+use crate::header::{Header, based_front_bytes, based_head_bytes};
 use std::alloc::{AllocError, Global};
 
 // Whether each byte that is there is the one that was written, or a hole; of those behind them nothing is said.
@@ -41,8 +41,9 @@ fn behind(bytes: &[u8], len: usize) -> &[u8]
 pub fn may_be_left(alloc: Global, header: &Header, bytes: &[u8]) -> Result<bool, AllocError>
     ensures { IfOk result (λ left. left ≡ may_be_left header.now bytes.now) }
 {
+    let head = based_head_bytes(alloc, header)?;
     let front = based_front_bytes(alloc, header)?;
-    let is_numbered = are_left(&BASED_FRONT, bytes);
+    let is_numbered = are_left(&head, bytes);
     // Between them stands the checksum, which isn't known.
     let is_headed = are_left(&front, behind(bytes, 24));
     Ok(is_numbered && is_headed)

@@ -22,6 +22,8 @@ pub struct Stored {
     pub log: Log,
     /// Of each data component what its last note says.
     pub notes: Vec<SiteNote>,
+    /// How many frames there are, the header's too.
+    pub frames: usize,
     /// How many bytes at the end are no whole frame: what a crash left of one.
     pub unfinished: usize,
 }
@@ -59,6 +61,7 @@ pub fn read_file(alloc: Global, bytes: &[u8]) -> Result<Stored, OpenFault>
         base,
         log,
         notes,
+        frames: found.payloads.len(),
         unfinished: bytes.len() - found.end,
     })
 }

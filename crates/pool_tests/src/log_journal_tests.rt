@@ -21,6 +21,7 @@ const HEADER: Header = Header {
     dcs: 2,
     procedures: 6,
     digest: [7; 32],
+    session: None,
 };
 
 // A file in memory with these bytes.

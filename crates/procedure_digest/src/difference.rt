@@ -1,13 +1,25 @@
 // In what a log of others differs.
 
 ghost use Rattle.std.specs.Prelude.{◌≡◌, IfOk, string_bytes};
-ghost use Rattle.procedure_digest.specs.Difference.{other_line};
+ghost use Rattle.procedure_digest.specs.Difference.{is_same_session, other_line};
 
 use log_file::Header;
 use std::alloc::{AllocError, Global};
 
+// Whether both have the same session, or none.
+fn is_same_session(log: &Option<u64>, script: &Option<u64>) -> bool
+    ensures { result ≡ is_same_session log.now script.now }
+{
+    match (log, script) {
+        (None, None) => true,
+        (Some(log), Some(script)) => log == script,
+        _ => false,
+    }
+}
+
 /// The line that refuses a log that has another header than a script's procedures: the first in which they
-/// differ of the number of data components, that of procedures, and the digest, with both numbers.
+/// differ of the number of data components, that of procedures, the session, and the digest, with both numbers
+/// of the first two.
 pub fn other_line(alloc: Global, log: &Header, script: &Header) -> Result<String, AllocError>
     ensures { IfOk result (λ line. string_bytes line ≡ other_line log.now script.now) }
 {
@@ -18,6 +30,9 @@ pub fn other_line(alloc: Global, log: &Header, script: &Header) -> Result<String
     if log.procedures != script.procedures {
         let (has, wanted) = (log.procedures, script.procedures);
         return format!(in alloc; "refused log Other procedures {has} script {wanted}\n");
+    }
+    if !is_same_session(&log.session, &script.session) {
+        return String::from_str(alloc, "refused log Other session\n");
     }
     String::from_str(alloc, "refused log Other digest\n")
 }

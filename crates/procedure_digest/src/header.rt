@@ -3,6 +3,7 @@
 ghost use Rattle.std.specs.Prelude.{◌≡◌, IfOk};
 ghost use Rattle.sha2.specs.Sha256.{sha256};
 ghost use Rattle.procedure_digest.specs.Bytes.{procedures_bytes};
+ghost use Rattle.log_file.specs.Bytes.{of_session};
 ghost use Rattle.procedure_digest.specs.Header.{header_of};
 
 use crate::bytes::write_procedure;
@@ -30,7 +31,7 @@ fn digest_of(bytes: &[u8]) -> [u8; 32]
     Sha256::digest(bytes)
 }
 
-/// The header of the log of a transaction component that has these procedures loaded.
+/// The header of the log of a transaction component that has these procedures loaded, and no session.
 pub fn header_of(alloc: Global, procs: &Procs) -> Result<Header, AllocError>
     ensures { IfOk result (λ header. header ≡ header_of procs.now) }
 {
@@ -39,5 +40,18 @@ pub fn header_of(alloc: Global, procs: &Procs) -> Result<Header, AllocError>
         dcs: procs.dcs(),
         procedures: procs.len() as u64,
         digest: digest_of(&bytes),
+        session: None,
     })
+}
+
+/// The same of this session, where there is one.
+pub fn header_of_session(
+    alloc: Global,
+    procs: &Procs,
+    session: Option<u64>,
+) -> Result<Header, AllocError>
+    ensures { IfOk result (λ header. header ≡ of_session (header_of procs.now) session) }
+{
+    let plain = header_of(alloc, procs)?;
+    Ok(Header { session, ..plain })
 }

@@ -15,5 +15,5 @@ mod header;
 mod laws;
 
 pub use difference::other_line;
-pub use header::header_of;
+pub use header::{header_of, header_of_session};
 pub use laws::procedures_tell;

@@ -16,6 +16,7 @@ const HEADER: Header = Header {
     dcs: 2,
     procedures: 1,
     digest: [7; 32],
+    session: None,
 };
 
 const DELETE: Op = Op::Delete(Record {

@@ -73,6 +73,7 @@ fn of(procedures: u64, digest: [u8; 32]) -> Option<Header> {
         dcs: 2,
         procedures,
         digest,
+        session: None,
     })
 }
 

@@ -20,6 +20,7 @@ const HEADER: Header = Header {
     dcs: 1,
     procedures: 5,
     digest: [7; 32],
+    session: None,
 };
 
 // A world, the file that it is written to, and how many events that has.

@@ -1,5 +1,5 @@
 -- The fields of a payload, whatever its bytes are, and what payloads come to.
-use Rattle.std.specs.Prelude.{◌≡◌, ℕ, zero, suc, ◌+◌, ◌*◌, ◌/◌, ◌%◌, ◌<◌, ◌==◌, false, if◌then◌else◌, Option, Some}
+use Rattle.std.specs.Prelude.{◌≡◌, ℕ, zero, suc, ◌+◌, ◌*◌, ◌/◌, ◌%◌, ◌<◌, ◌==◌, ◌||◌, Bool, true, false, if◌then◌else◌, Option, Some}
 use Rattle.std.specs.Prelude.{None, List, [], ◌∷◌, ◌++◌, length, take, drop, map}
 use Rattle.std.specs.Int.{w64, from_le_bytes}
 use Rattle.access_slots.specs.declared.slot.Record.{Record}
@@ -16,11 +16,26 @@ use Rattle.log_file.specs.declared.reading.OpenFault.TheVariants.{Frames, Empty,
 use Rattle.log_file.specs.Bytes.{Rows, part_bytes, Batch, batch_bytes, notes_of, rows_of}
 use Rattle.log_file.specs.Reading.{AreRows, Rise, begins_anew, AreBatches, IsFirstNoPart, IsFirstNoBatch, last_known}
 
+abbrev pub version_in : List ℕ → ℕ
+version_in bytes = from_le_bytes w64 (take 8 (drop 8 bytes))
+
+-- whether a header of this version has a session
+abbrev pub has_session : ℕ → Bool
+has_session version = version == 3 || version == 4
+
+abbrev pub session_by : Bool → List ℕ → Option ℕ
+session_by false bytes = None
+session_by true bytes = Some (from_le_bytes w64 (take 8 (drop 64 bytes)))
+
+abbrev pub session_in : List ℕ → Option ℕ
+session_in bytes = session_by (has_session (version_in bytes)) bytes
+
 abbrev pub header_in : List ℕ → Header
 header_in bytes = record {
   dcs = from_le_bytes w64 (take 8 (drop 16 bytes));
   procedures = from_le_bytes w64 (take 8 (drop 24 bytes));
   digest = take 32 (drop 32 bytes);
+  session = session_in bytes;
 }
 
 -- the first payload has these fields of a header

@@ -17,6 +17,7 @@ returns-in-Ok-clause-ok c = begun_as c.args.frame.now (Tc c.in-Ok.part) 1 c.in-1
       requests = c.in-Ok.ensures.requests;
       gathered = c.in-Ok.ensures.gathered;
       file = c.in-Ok.ensures.file;
+      session = c.in-Ok.ensures.session;
       prepared = c.in-Ok.ensures.prepared;
     })
 

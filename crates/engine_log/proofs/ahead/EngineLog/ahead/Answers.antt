@@ -1,4 +1,4 @@
-use Rattle.std.proofs.Common.{◌≡◌, ◌++◌, List, ℕ, Some, None, sym, ◌∙◌, rules}
+use Rattle.std.proofs.Common.{◌≡◌, ◌++◌, None, rules}
 use Rattle.engine_log.specs.Handing.{Fits}
 use Rattle.engine_log.proofs.AheadLemmas.{on_ok, goes_on, begins}
 use Rattle.engine_log.proofs.ahead.EngineLog.ahead.Goals as goal
@@ -11,7 +11,8 @@ returns-in_default-clause-goes_on c =
       c.append.new.out.items,
       out,
       begins c.args.self.now c.in_ok-file.file c.append.new.self c.args.tc.now c.begun.new.out.items one.0 c.append.new.out.items none
-          c.in_ok-file.ensures.header (c.in_ok-file.ensures.frames (search rules)) c.append.ensures.header one.2 one.1,
+          c.in_ok-file.ensures.header c.in_ok-file.ensures.session (c.in_ok-file.ensures.frames (search rules)) c.append.ensures.header
+          c.append.ensures.session one.2 one.1,
     )
 
 pub returns-clause-goes_on : goal.returns-clause-goes_on
@@ -20,5 +21,6 @@ returns-clause-goes_on c =
     on_ok c.append-2.result (λ one. (
       one.0,
       one.1,
-      goes_on c.in-Some.header c.args.self.now c.args.tc.now one.0 c.append-2.new.self c.in-Some.is fits c.append-2.ensures.header one.2,
+      goes_on c.in-Some.header c.args.self.now c.args.tc.now one.0 c.append-2.new.self c.in-Some.is fits c.append-2.ensures.header
+          c.append-2.ensures.session one.2,
     )) c.append-2.ensures.one_more
