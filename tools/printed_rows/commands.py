@@ -1,14 +1,19 @@
 """Command lines: which aren't understood, and what can't be read."""
-from .row import Row
+from .row import Row, no_number
 
-NUMBER = b"error: an ARG, N, P or BYTES is no number of 64 bits in decimal"
 # Words, and what standard error begins with.
 WRONG = [
     ([], b"error: a command is missing"),
     (["dance"], b"error: "),
     (["exec"], b"error: "),
-    (["exec", "-", "18446744073709551616"], NUMBER),
-    (["run", "--workers", "x", "-"], NUMBER),
+    (["exec", "-", "18446744073709551616"], no_number("[ARG]...", "18446744073709551616")),
+    (["exec", "-", "1", "+2", "0x3", "y"], no_number("[ARG]...", "0x3")),
+    (["run", "--workers", "abc", "-"], no_number("--workers <N>", "abc", "from 1 to 64")),
+    (["run", "--workers", "+4", "-"], no_number("--workers <N>", "+4", "from 1 to 64")),
+    (["run", "--workers", "4", "--tries", "", "-"], no_number("--tries <N>", "", "from 1 to 1000")),
+    (["run", "--workers", "4", "--tries", "3x", "-"], no_number("--tries <N>", "3x", "from 1 to 1000")),
+    (["run", "--log", "no-such-folder/log", "--checkpoint-over", "1k", "-"], no_number("--checkpoint-over <BYTES>", "1k")),
+    (["run", "--partitions", "--workers", "+1", "-"], no_number("--workers <N>", "+1", "from 1 to 64")),
     (["world", "--stats", "-"], b"error: unexpected argument '--stats' found\n\nUsage: procd"),
 ]
 

@@ -1,6 +1,6 @@
 //! The program, over readers and writers that are handed in.
 
-ghost use Rattle.std.specs.Prelude.{◌≡◌, ◌++◌, ℕ, List, Option, IfOk, IfErr, IfSome, None, Some, Ok, Err, true, false};
+ghost use Rattle.std.specs.Prelude.{◌≡◌, ◌⊎◌, ◌++◌, ℕ, List, Option, IfOk, IfErr, IfSome, None, Some, Ok, Err, true, false};
 ghost use Rattle.std.specs.Prelude.{codes, map, string_bytes};
 ghost use Rattle.command_line.specs.Said.{Says, IsWrong, shows};
 ghost use Rattle.command_line.specs.Wanted.{WantsOrNoMemory, IsWrongOrNoMemory};
@@ -19,6 +19,7 @@ use crate::report::{ReportFault, report_on};
 use crate::streams::Streams;
 use clap::Error;
 use clap::error::ErrorKind;
+use command_line::numbers::NoNumber;
 use command_line::words::{LogTask, Task, Wanted, WordFault, wanted_of};
 use disk_file::{FileFault, FileKind};
 use log_part::Part;
@@ -388,9 +389,17 @@ fn wrong_words<E: Write>(err: &mut E, text: &str) -> u8
     MISUSE
 }
 
-// Why words are wrong.
-const NO_NUMBER: &str = "error: an ARG, N, P or BYTES is no number of 64 bits in decimal";
+// Tells which word is no number.
+fn wrong_number<E: Write>(alloc: Global, refused: &NoNumber, err: &mut E) -> u8
+    ensures { (result ≡ 2) ⊎ (result ≡ 4) }
+{
+    match refused.text(alloc) {
+        Ok(text) => wrong_words(err, text.as_str()),
+        Err(AllocError) => no_memory(err),
+    }
+}
 
+// Why words are wrong.
 const AUDIT_ALONE: &str =
     "error: log --audit takes a SOURCE as well: the script, or object file, whose procedures the log was written for";
 
@@ -426,7 +435,7 @@ fn refuse_words<W: Write, E: Write>(
     match fault {
         WordFault::Clap(error) => misuse(alloc, error, streams),
         WordFault::Memory => no_memory(&mut streams.err),
-        WordFault::NotNumber => wrong_words(&mut streams.err, NO_NUMBER),
+        WordFault::NotNumber(refused) => wrong_number(alloc, refused, &mut streams.err),
         WordFault::AuditAlone => wrong_words(&mut streams.err, AUDIT_ALONE),
         WordFault::ScriptAlone => wrong_words(&mut streams.err, SCRIPT_ALONE),
         WordFault::TwoPurposes => wrong_words(&mut streams.err, TWO_PURPOSES),
