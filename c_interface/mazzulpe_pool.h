@@ -2,6 +2,7 @@
  *
  *     mz_pool_open(tc, log, carry, context, calls_at_once, NULL, &pool)
  *                                  once the log is open: takes up what is open, and redoes components that are down
+ *     mz_pool_open_batched         the same over components that take batches
  *     mz_pool_come_back(pool, &n)  waits until all that was open has ended
  *     mz_pool_call(pool, "move", args, 3, values, 2, &receipt)
  *                                  from any thread: a call from its admission to its end, which the log has for good
@@ -75,10 +76,16 @@ static inline int mz_pool_condition(pthread_cond_t *condition) {
     return is_made;
 }
 
+/* How many data components there are. */
+static inline size_t mz_pool_dcs(mz_tc *tc) {
+    size_t dcs = 0;
+    while (dcs < UINT16_MAX && mz_site(tc, (uint16_t)dcs, NULL, NULL) == MZ_OK) dcs++;
+    return dcs;
+}
+
 /* Room for its calls and its data components. */
 static inline mz_code mz_pool_furnish(mz_pool *pool) {
-    size_t lanes = 0;
-    while (lanes < UINT16_MAX && mz_site(pool->tc, (uint16_t)lanes, NULL, NULL) == MZ_OK) lanes++;
+    size_t lanes = mz_pool_dcs(pool->tc);
     for (pool->bucket_count = 16; pool->bucket_count < pool->calls_at_once && pool->bucket_count < 1u << 16;) pool->bucket_count *= 2;
     pool->buckets = (mz_pool_item **)calloc(pool->bucket_count, sizeof *pool->buckets);
     pool->lanes = (mz_pool_lane **)calloc(lanes, sizeof *pool->lanes);
@@ -161,6 +168,12 @@ static inline mz_code mz_pool_begin_again(mz_pool *pool, mz_pool_keep *keep, voi
     return c;
 }
 
+/* Each thread has a room of its own. */
+static inline void mz_pool_carry_batches(void *rooms, const mz_wire *wires, size_t count, mz_carried *carried, mz_reply *replies,
+                                         mz_news *news) {
+    mz_carry_batches((mz_batches *)rooms + wires[0].record.dc, wires, count, carried, replies, news);
+}
+
 /* What mz_pool_call waits for. */
 typedef struct { pthread_mutex_t lock; pthread_cond_t over; int is_over; mz_code code; mz_receipt receipt; } mz_pool_caller;
 
@@ -221,6 +234,7 @@ static inline void mz_pool_close(mz_pool *pool, unsigned milliseconds) {
     pthread_cond_destroy(&pool->drained);
     pthread_mutex_destroy(&pool->queue_lock);
     pthread_mutex_destroy(&pool->lock);
+    free(pool->rooms);
     free(pool->lanes);
     free(pool->buckets);
     free(pool);
@@ -251,6 +265,24 @@ static inline mz_code mz_pool_open(mz_tc *tc, mz_log *log, mz_carry_many *carry,
     if (c == MZ_OK) c = mz_pool_start(made);
     if (c == MZ_OK) *pool = made;
     else mz_pool_close(made, 0);
+    return c;
+}
+
+/* The same over data components from 0 on that take batches (mazzulpe_batch.h), each used by one thread; they have to be there until the
+ * pool is closed. */
+static inline mz_code mz_pool_open_batched(mz_tc *tc, mz_log *log, const mz_batched *components, uint16_t count, size_t calls_at_once,
+                                           const mz_pool_options *options, mz_pool **pool) {
+    size_t dcs = tc && components ? mz_pool_dcs(tc) : 0;
+    if (!dcs) return MZ_BAD_ARGUMENT;
+    mz_batches *rooms = (mz_batches *)calloc(dcs, sizeof *rooms);
+    if (!rooms) return MZ_MEMORY;
+    for (size_t d = 0; d < dcs; d++) {
+        rooms[d].components = components;
+        rooms[d].count = count;
+    }
+    mz_code c = mz_pool_open(tc, log, mz_pool_carry_batches, rooms, calls_at_once, options, pool);
+    if (c == MZ_OK) (*pool)->rooms = rooms;
+    else free(rooms);
     return c;
 }
 

@@ -99,6 +99,7 @@ struct mz_pool {
     mz_log *log;
     mz_carry_many *carry;
     void *context;
+    mz_batches *rooms; /* of mz_pool_open_batched */
     mz_pool_options options;
     uint64_t longest_rest;
     pthread_mutex_t lock; /* of tc, and of all that isn't the queue's */

@@ -45,23 +45,14 @@ def by_cxx(compiler, use, folder, home):
 
 
 class Page:
-    """What the page says: commands (to unpack a package, to build here, to use either), what they print, two files, and the loop
-    that stands in the second one's place of mz_run where nobody answers."""
+    """What the page says: commands (to unpack a package, to build here, to use either), what they print, and two files."""
 
     def __init__(self):
         text = (HERE.parent / "docs/EMBEDDING.md").read_text()
         blocks = re.findall(r"```(\w*)\n(.*?)```", text, re.DOTALL)
         self.unpack, self.build, self.use = [block for kind, block in blocks if kind == "sh"]
-        self.procedures, self.program, self.loop = [block for kind, block in blocks if kind == "c"]
+        self.procedures, self.program = [block for kind, block in blocks if kind == "c"]
         (self.printed,) = [block for kind, block in blocks if kind == ""]
-
-    def with_loop(self):
-        """The program, with the loop."""
-        once = "    if (code == MZ_OK) code = mz_run(tc, *txn, carry, dc, 3, &receipt, &stopped);\n"
-        loop = self.loop.replace("mz_run(tc, txn, carry, storage,", "mz_run(tc, *txn, carry, dc,")
-        if once not in self.program or loop == self.loop:
-            raise ValueError("the loop's mz_run isn't the program's")
-        return "#define wait_milliseconds(ms) (void)(ms)\n" + self.program.replace(once, f"    if (code == MZ_OK) {{\n{loop}}}\n")
 
     def written(self, home):
         """A folder with the page's two files."""
@@ -81,9 +72,6 @@ def main():
         began = time.monotonic()
         wrong = told("page", shell(page.use, folder, env), page.printed)
         print(f"page: {time.monotonic() - began:.1f} s from the two files to what it prints")
-        (folder / "main.c").write_text(page.with_loop())
-        wrong += told("page, with the loop", shell(page.use, folder, env), page.printed)
-        (folder / "main.c").write_text(page.program)
         for compiler in sys.argv[1:]:
             wrong += told(f"page by {compiler}, PREFIX with a space", by_cxx(compiler, page.use, folder, home), page.printed)
     return wrong != 0

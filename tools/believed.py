@@ -42,6 +42,7 @@ GROUPS = [
     ("the steps of a world", "tc_world"),
     ("crashes of the transaction component", "tc_world.Recovery tc_world.Lives tc_world.Ahead"),
     ("an engine that writes its log's file ahead", "engine_recovery"),
+    ("transaction components that take over from one another", "succession"),
     ("recovery from a log alone, and from the records that one begins with", "coming_back base_records"),
     ("one at a time, audits", "serial audit tc_world.OneAtATime"),
     ("what a script says, and an object file's procedures for one", "scripts object_procedures"),

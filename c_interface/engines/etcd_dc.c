@@ -1,9 +1,11 @@
 #include "etcd_dc.h"
 #include "etcd_post.h"
+#include "faults.h"
 #include "places.h"
-#include <stdio.h>
+#include <stdarg.h>
 
-enum { RAISE_BEHIND = 200, KEY = 48, BODY = 4096, LIFE = 32 };
+/* MOST: wires of a batch. etcd takes 128 operations in a transaction, and as many comparisons; before the wires are two. */
+enum { RAISE_BEHIND = 1000, KEY = 48, BODY = 1 << 18, LIFE = 32, MOST = 120, RESERVE = 64 << 20 };
 
 #define COMPONENT "Y29tcG9uZW50" /* "component" */
 #define MARK "bWFyaw=="          /* "mark" */
@@ -17,13 +19,25 @@ struct etcd_dc {
     uint64_t session;
     _Atomic uint64_t raised; /* the mark that was told last */
     _Atomic int is_retired;  /* another session is served */
+    _Atomic uint64_t quota;  /* 0: none is known */
+    _Atomic int is_low;      /* less than the reserve was left of it when it was looked at */
+    _Atomic time_t looked;
     places places;
     connection connections[PLACES];
 };
 
 /* ---- keys and values */
 
-typedef struct { char record[ETCD_TEXT], number[ETCD_TEXT], component[ETCD_TEXT], below[ETCD_TEXT], value[ETCD_TEXT]; } coded;
+/* Text that is added to. */
+typedef struct { char *at, *end; } writer;
+
+static void add(writer *w, const char *format, ...) {
+    va_list words;
+    va_start(words, format);
+    int length = vsnprintf(w->at, (size_t)(w->end - w->at), format, words);
+    va_end(words);
+    w->at = length >= 0 && length < w->end - w->at ? w->at + length : w->end - 1;
+}
 
 static const char *coded_hex(char to[ETCD_TEXT], const char *before, uint64_t n) {
     char text[KEY];
@@ -148,38 +162,47 @@ static int is_raised(etcd_dc *dc, connection *c, uint64_t incarnation, uint64_t 
     return 1;
 }
 
-/* ---- the wire */
+/* ---- wires */
 
-/* What the operation does, and what it keeps under its number. */
-static void put_operation(char *to, size_t bytes, const mz_wire *w, const coded *k) {
-    char does[3 * ETCD_TEXT];
+/* What the operation does, and what it keeps under its number: "1" to "6" are what was said, by mz_said. */
+static void add_operation(writer *to, const mz_wire *w) {
+    char record[ETCD_TEXT], number[ETCD_TEXT], value[ETCD_TEXT];
     int inserts = w->op == MZ_INSERT;
+    coded_record(record, &w->record);
+    coded_hex(number, "p/", w->number);
     if (w->op == MZ_READ) {
-        snprintf(to, bytes, "{\"request_range\":{\"key\":\"%s\"}},{\"request_put\":{\"key\":\"%s\",\"value\":\"MQ==\"}}", k->record, k->number);
+        add(to, "{\"request_txn\":{\"success\":[{\"request_range\":{\"key\":\"%s\"}},{\"request_put\":{\"key\":\"%s\",\"value\":\"MQ==\"}}]}}",
+            record, number);
         return;
     }
-    if (w->op == MZ_DELETE) snprintf(does, sizeof does, "{\"request_delete_range\":{\"key\":\"%s\",\"prev_kv\":true}}", k->record);
-    else snprintf(does, sizeof does, "{\"request_put\":{\"key\":\"%s\",\"value\":\"%s\",\"prev_kv\":true}}", k->record, k->value);
-    snprintf(to, bytes, "{\"request_txn\":{\"compare\":[{\"key\":\"%s\",\"target\":\"CREATE\",\"result\":\"%s\",\"create_revision\":\"0\"}],"
-             "\"success\":[%s,{\"request_put\":{\"key\":\"%s\",\"value\":\"%s\"}}],"
-             "\"failure\":[{\"request_put\":{\"key\":\"%s\",\"value\":\"%s\"}}]}}",
-             k->record, inserts ? "EQUAL" : "GREATER", does, k->number, inserts ? "Mw==" : "NA==", k->number, inserts ? "NQ==" : "Ng==");
+    add(to, "{\"request_txn\":{\"compare\":[{\"key\":\"%s\",\"target\":\"CREATE\",\"result\":\"%s\",\"create_revision\":\"0\"}],\"success\":[",
+        record, inserts ? "EQUAL" : "GREATER");
+    if (w->op == MZ_DELETE) add(to, "{\"request_delete_range\":{\"key\":\"%s\",\"prev_kv\":true}}", record);
+    else add(to, "{\"request_put\":{\"key\":\"%s\",\"value\":\"%s\",\"prev_kv\":true}}", record, etcd_coded(value, w->value, MZ_VALUE));
+    add(to, ",{\"request_put\":{\"key\":\"%s\",\"value\":\"%s\"}}],\"failure\":[{\"request_put\":{\"key\":\"%s\",\"value\":\"%s\"}}]}}", number,
+        inserts ? "Mw==" : "NA==", number, inserts ? "NQ==" : "Ng==");
 }
 
-/* "1" to "6" are what was said, by mz_said. Where it isn't to be performed, what has to be known of it is read. */
-static void put_wire(etcd_dc *dc, connection *c, const mz_wire *w, coded *k) {
-    char operation[BODY / 2];
-    coded_record(k->record, &w->record);
-    coded_hex(k->number, "p/", w->number);
-    coded_hex(k->below, "", w->number);
-    coded_component(k->component, dc->session, w->incarnation, c->life);
-    etcd_coded(k->value, w->value, MZ_VALUE);
-    put_operation(operation, sizeof operation, w, k);
-    snprintf(c->body, BODY, "{\"compare\":[{\"key\":\"" COMPONENT "\",\"target\":\"VALUE\",\"result\":\"EQUAL\",\"value\":\"%s\"},"
-             "{\"key\":\"" MARK "\",\"target\":\"VALUE\",\"result\":\"LESS\",\"value\":\"%s\"},"
-             "{\"key\":\"%s\",\"target\":\"CREATE\",\"result\":\"EQUAL\",\"create_revision\":\"0\"}],\"success\":[%s],"
-             "\"failure\":[{\"request_range\":{\"key\":\"" COMPONENT "\"}},{\"request_range\":{\"key\":\"" MARK "\"}},{\"request_range\":{\"key\":\"%s\"}}]}",
-             k->component, k->below, k->number, operation, k->number);
+/* Where each is to be performed all of them are; else what has to be known of them is read. */
+static void put_wires(etcd_dc *dc, connection *c, const mz_wire *w, size_t count) {
+    char component[ETCD_TEXT], number[ETCD_TEXT];
+    uint64_t least = w->number;
+    writer to = {c->body, c->body + BODY};
+    for (size_t i = 1; i < count; i++)
+        if (w[i].number < least) least = w[i].number;
+    coded_component(component, dc->session, w->incarnation, c->life);
+    add(&to, "{\"compare\":[{\"key\":\"" COMPONENT "\",\"target\":\"VALUE\",\"result\":\"EQUAL\",\"value\":\"%s\"},"
+             "{\"key\":\"" MARK "\",\"target\":\"VALUE\",\"result\":\"LESS\",\"value\":\"%s\"}", component, coded_hex(number, "", least));
+    for (size_t i = 0; i < count; i++)
+        add(&to, ",{\"key\":\"%s\",\"target\":\"CREATE\",\"result\":\"EQUAL\",\"create_revision\":\"0\"}", coded_hex(number, "p/", w[i].number));
+    add(&to, "],\"success\":[");
+    for (size_t i = 0; i < count; i++) {
+        if (i) add(&to, ",");
+        add_operation(&to, &w[i]);
+    }
+    add(&to, "],\"failure\":[{\"request_range\":{\"key\":\"" COMPONENT "\"}},{\"request_range\":{\"key\":\"" MARK "\"}}");
+    for (size_t i = 0; i < count; i++) add(&to, ",{\"request_range\":{\"key\":\"%s\"}}", coded_hex(number, "p/", w[i].number));
+    add(&to, "]}");
 }
 
 /* 1: a record's value is there, 0: it isn't, -1: the response isn't whole. */
@@ -189,81 +212,176 @@ static int value_in(etcd_part response, uint8_t value[MZ_VALUE]) {
     return !text ? 0 : etcd_decoded(text, value, MZ_VALUE) == MZ_VALUE ? 1 : -1;
 }
 
-/* Of what was performed now. */
-static mz_carried now_performed(const connection *c, const mz_wire *w, mz_reply *r) {
-    etcd_part whole = etcd_whole(&c->to), first = etcd_response(whole, 0);
-    if (w->op == MZ_READ) {
-        int is_there = value_in(first, r->value);
-        r->said = is_there ? MZ_VALUE_IS : MZ_ABSENT;
-        return is_there < 0 ? MZ_LOST : MZ_REPLIED;
-    }
-    if (!etcd_field(first, "succeeded")) {
+/* Of a wire that was performed now, from the responses that are left. 0 where they aren't whole. */
+static int is_said(etcd_part *left, const mz_wire *w, mz_reply *r) {
+    etcd_part own = etcd_next(left), first = etcd_next(left);
+    if (w->op != MZ_READ && !etcd_field(own, "succeeded")) {
         r->said = w->op == MZ_INSERT ? MZ_DUPLICATE : MZ_MISSING;
-        return MZ_REPLIED;
+        return first.from != NULL;
     }
-    r->said = w->op == MZ_INSERT ? MZ_DONE : MZ_DONE_WAS;
-    return w->op == MZ_INSERT || value_in(etcd_response(whole, 1), r->value) == 1 ? MZ_REPLIED : MZ_LOST;
+    int is_there = w->op == MZ_INSERT ? 0 : value_in(first, r->value);
+    r->said = w->op == MZ_READ ? (is_there ? MZ_VALUE_IS : MZ_ABSENT) : w->op == MZ_INSERT ? MZ_DONE : MZ_DONE_WAS;
+    return etcd_next(left).from && is_there >= 0 && (r->said != MZ_DONE_WAS || is_there);
 }
 
-/* Of what was performed in this revision: a value is the record's, as it was read there or before it was written. */
-static mz_carried once_performed(connection *c, const char *record, uint64_t revision, mz_reply *r) {
-    if (r->said != MZ_VALUE_IS && r->said != MZ_DONE_WAS) return MZ_REPLIED;
-    snprintf(c->body, BODY, "{\"key\":\"%s\",\"revision\":\"%llu\"}", record, (unsigned long long)revision - (r->said == MZ_DONE_WAS));
-    if (etcd_post(&c->to, "kv/range", c->body) != ETCD_DONE) return MZ_LOST;
-    int is_there = value_in(etcd_whole(&c->to), r->value);
-    if (!is_there && r->said == MZ_VALUE_IS) r->said = MZ_ABSENT;
-    return is_there == 1 || r->said == MZ_ABSENT ? MZ_REPLIED : MZ_LOST;
+/* A reply to each wire, of which what was said is still to come. */
+static void begin_replies(const mz_wire *w, size_t count, mz_reply *r) {
+    memset(r, 0, count * sizeof *r);
+    for (size_t i = 0; i < count; i++) {
+        r[i].number = w[i].number;
+        r[i].incarnation = w[i].incarnation;
+    }
 }
 
-/* Of what isn't to be performed: it is for another incarnation, old, or was performed. */
-static mz_carried not_performed(etcd_dc *dc, connection *c, const mz_wire *w, const char *record, mz_reply *r, mz_news *news) {
-    etcd_part whole = etcd_whole(&c->to), number = etcd_response(whole, 2);
-    standing s = standing_in(etcd_response(whole, 0));
-    uint8_t digit = 0;
+typedef enum { NOBODY, PERFORMED, READ_ALONE } became;
+
+/* What became of the transaction of these wires: it was performed, with their replies, or what has to be known was read. */
+static became became_of(etcd_dc *dc, connection *c, const mz_wire *w, size_t count, mz_reply *r) {
+    static faults seen = {.lock = PTHREAD_MUTEX_INITIALIZER};
+    put_wires(dc, c, w, count);
+    etcd_status status = etcd_post(&c->to, "kv/txn", c->body);
+    if (status == ETCD_REFUSED) fault_seen(&seen, "etcd", c->to.in);
+    if (status != ETCD_DONE) return NOBODY;
+    etcd_part left = etcd_whole(&c->to);
+    if (!etcd_field(left, "succeeded")) return READ_ALONE;
+    begin_replies(w, count, r);
+    for (size_t i = 0; i < count; i++)
+        if (!is_said(&left, &w[i], &r[i])) return NOBODY;
+    return PERFORMED;
+}
+
+/* What is kept of a number: what was said, 0 where it is to be performed, and the revision in which it was put. */
+typedef struct { mz_said said; uint64_t revision; } kept;
+
+/* The values of what was performed in these revisions: a record's, as it was read there or before it was written. */
+static int have_values(connection *c, const mz_wire *w, size_t count, const kept *k, mz_reply *r) {
+    char record[ETCD_TEXT];
+    writer to = {c->body, c->body + BODY};
+    size_t wanted = 0;
+    add(&to, "{\"success\":[");
+    for (size_t i = 0; i < count; i++) {
+        if (k[i].said != MZ_VALUE_IS && k[i].said != MZ_DONE_WAS) continue;
+        add(&to, "%s{\"request_range\":{\"key\":\"%s\",\"revision\":\"%llu\"}}", wanted++ ? "," : "", coded_record(record, &w[i].record),
+            (unsigned long long)k[i].revision - (k[i].said == MZ_DONE_WAS));
+    }
+    add(&to, "]}");
+    if (!wanted) return 1;
+    if (etcd_post(&c->to, "kv/txn", c->body) != ETCD_DONE) return 0;
+    etcd_part left = etcd_whole(&c->to);
+    for (size_t i = 0; i < count; i++) {
+        if (k[i].said != MZ_VALUE_IS && k[i].said != MZ_DONE_WAS) continue;
+        int is_there = value_in(etcd_next(&left), r[i].value);
+        if (is_there < 0 || (!is_there && k[i].said == MZ_DONE_WAS)) return 0;
+        if (!is_there) r[i].said = MZ_ABSENT;
+    }
+    return 1;
+}
+
+/* What the responses keep of the numbers above the mark. 0 where they aren't whole. */
+static int are_kept(etcd_part left, const mz_wire *w, size_t count, uint64_t mark, kept *k) {
+    for (size_t i = 0; i < count; i++) {
+        uint8_t digit = 0;
+        etcd_part number = etcd_next(&left);
+        const char *value = etcd_field(number, "value");
+        if (!number.from || (value && etcd_decoded(value, &digit, 1) != 1)) return 0;
+        k[i].said = w[i].number <= mark ? MZ_OLD : value ? (mz_said)(digit - '0') : (mz_said)0;
+        k[i].revision = etcd_number(number, "mod_revision");
+    }
+    return 1;
+}
+
+/* Part of the wires is old or was performed: these get what was said, and the others are performed. */
+static mz_carried rest_performed(etcd_dc *dc, connection *c, const mz_wire *w, size_t count, const kept *k, mz_reply *replies) {
+    mz_wire fresh[MOST];
+    mz_reply said[MOST];
+    size_t places[MOST], left = 0;
+    begin_replies(w, count, replies);
+    for (size_t i = 0; i < count; i++) {
+        replies[i].said = k[i].said;
+        if (k[i].said) continue;
+        places[left] = i;
+        fresh[left++] = w[i];
+    }
+    if (!have_values(c, w, count, k, replies)) return MZ_LOST;
+    if (left && became_of(dc, c, fresh, left, said) != PERFORMED) return MZ_LOST;
+    for (size_t i = 0; i < left; i++) replies[places[i]] = said[i];
+    return MZ_REPLIED;
+}
+
+/* Of what wasn't performed: it is for another incarnation, or part of it is old or was performed. */
+static mz_carried not_performed(etcd_dc *dc, connection *c, const mz_wire *w, size_t count, mz_reply *replies, mz_news *news) {
+    kept k[MOST];
+    etcd_part left = etcd_whole(&c->to);
+    standing s = standing_in(etcd_next(&left));
     if (s.is_there && s.session != dc->session) return MZ_RETIRED;
-    if (!s.is_there || !number.from) return MZ_LOST;
+    if (!s.is_there) return MZ_LOST;
     news->incarnation = s.incarnation;
-    news->mark = hex_in(etcd_response(whole, 1));
+    news->mark = hex_in(etcd_next(&left));
     c->is_known = s.incarnation >= w->incarnation && !strcmp(s.life, c->life);
     if (!c->is_known) return MZ_LOST;
     if (s.incarnation != w->incarnation) return MZ_RESTARTED;
-    r->said = MZ_OLD;
-    if (w->number <= news->mark) return MZ_REPLIED;
-    const char *kept = etcd_field(number, "value");
-    if (!kept || etcd_decoded(kept, &digit, 1) != 1) return MZ_LOST;
-    r->said = (mz_said)(digit - '0');
-    return once_performed(c, record, etcd_number(number, "mod_revision"), r);
+    return are_kept(left, w, count, news->mark, k) ? rest_performed(dc, c, w, count, k, replies) : MZ_LOST;
 }
 
-static mz_carried performed(etcd_dc *dc, connection *c, const mz_wire *w, mz_reply *reply, mz_news *news) {
-    coded k;
+/* Whether there is room for what doesn't undo and isn't redone: looked at once a second. Pages that are free don't make the
+ * database grow. */
+static int has_room(etcd_dc *dc, connection *c) {
+    time_t now = time(NULL);
+    if (!dc->quota || dc->looked == now) return !dc->is_low;
+    if (etcd_post(&c->to, "maintenance/status", "{}") != ETCD_DONE) return 0;
+    uint64_t size = etcd_number(etcd_whole(&c->to), "dbSize"), used = etcd_number(etcd_whole(&c->to), "dbSizeInUse");
+    dc->is_low = size + RESERVE > dc->quota && size - used < RESERVE / 2;
+    dc->looked = now;
+    return !dc->is_low;
+}
+
+void etcd_dc_quota(etcd_dc *dc, uint64_t bytes) {
+    dc->quota = bytes;
+    dc->is_low = 0;
+    dc->looked = 0;
+}
+
+static mz_carried performed(etcd_dc *dc, connection *c, const mz_wire *w, size_t count, mz_reply *replies, mz_news *news) {
+    uint64_t mark = 0;
+    int is_needed = 1;
+    for (size_t i = 0; i < count; i++) {
+        is_needed &= mz_finds_room(&w[i]);
+        if (w[i].low_water > mark) mark = w[i].low_water;
+    }
+    if (count > MOST) return MZ_LOST;
     if (!is_known(dc, c, w->incarnation)) return dc->is_retired ? MZ_RETIRED : MZ_LOST;
     if (w->session != dc->session) return MZ_RETIRED;
-    if (w->low_water > dc->raised + RAISE_BEHIND) is_raised(dc, c, w->incarnation, w->low_water);
+    if (!is_needed && !has_room(dc, c)) return MZ_LOST;
+    if (mark > dc->raised + RAISE_BEHIND) is_raised(dc, c, w->incarnation, mark);
     if (!is_known(dc, c, w->incarnation)) return MZ_LOST;
-    put_wire(dc, c, w, &k);
-    etcd_status status = etcd_post(&c->to, "kv/txn", c->body);
-    if (status == ETCD_REFUSED) fprintf(stderr, "etcd: %s\n", c->to.in);
-    if (status != ETCD_DONE) return MZ_LOST;
-    memset(reply, 0, sizeof *reply);
-    reply->number = w->number;
-    reply->incarnation = w->incarnation;
-    if (etcd_field(etcd_whole(&c->to), "succeeded")) return now_performed(c, w, reply);
-    return not_performed(dc, c, w, k.record, reply, news);
+    became what = became_of(dc, c, w, count, replies);
+    return what == PERFORMED ? MZ_REPLIED : what == NOBODY ? MZ_LOST : not_performed(dc, c, w, count, replies, news);
 }
 
-mz_carried etcd_dc_perform(etcd_dc *dc, const mz_wire *wire, mz_reply *reply, mz_news *news) {
+mz_carried etcd_dc_perform_many(etcd_dc *dc, const mz_wire *wires, size_t count, mz_reply *replies, mz_news *news) {
     int place = place_take(&dc->places);
-    mz_carried carried = performed(dc, &dc->connections[place], wire, reply, news);
+    mz_carried carried = performed(dc, &dc->connections[place], wires, count, replies, news);
     place_give(&dc->places, place);
     return carried;
 }
+
+mz_carried etcd_dc_perform(etcd_dc *dc, const mz_wire *wire, mz_reply *reply, mz_news *news) {
+    return etcd_dc_perform_many(dc, wire, 1, reply, news);
+}
+
+static mz_carried receive(void *dc, int sent, const mz_wire *wires, size_t count, mz_reply *replies, mz_news *news) {
+    (void)sent;
+    return etcd_dc_perform_many((etcd_dc *)dc, wires, count, replies, news);
+}
+
+mz_batched etcd_dc_batched(etcd_dc *dc) { return (mz_batched){dc, NULL, receive, MOST}; }
 
 int etcd_dc_begin(etcd_dc *dc, uint64_t session, uint64_t former) {
     int place = place_take(&dc->places), is_served = 0;
     connection *c = &dc->connections[place];
     standing s;
-    for (int tries = 0; !is_served && tries < 3 && is_read(c, &s); tries++) {
+    for (int tries = 0; !is_served && tries < 6; tries++) {
+        if (!is_read(c, &s)) continue; /* the next member */
         is_served = s.is_there && s.session == session;
         if (is_served || (s.is_there && s.session != former) || !is_begun(c, session, &s, s.is_there ? s.incarnation + 1 : 1)) break;
     }
@@ -297,7 +415,7 @@ etcd_dc *etcd_dc_open(const char *members, uint64_t session) {
 
 void etcd_dc_close(etcd_dc *dc) {
     if (!dc) return;
-    for (int i = 0; i < PLACES; i++) etcd_hang_up(&dc->connections[i].to);
+    for (int i = 0; i < PLACES; i++) etcd_let_go(&dc->connections[i].to);
     free(dc->members);
     free(dc);
 }

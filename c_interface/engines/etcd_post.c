@@ -8,7 +8,7 @@
 #include <sys/time.h>
 #include <unistd.h>
 
-enum { ANSWERS_WITHIN = 3 }; /* seconds */
+enum { ANSWERS_WITHIN = 3, FIRST_ROOM = 16384, MOST_ROOM = 64 << 20 }; /* seconds; bytes of a response */
 
 static const char sixty_four[] = "ABCDEFGHIJKLMNOPQRSTUVWXYZabcdefghijklmnopqrstuvwxyz0123456789+/";
 
@@ -17,6 +17,13 @@ static const char sixty_four[] = "ABCDEFGHIJKLMNOPQRSTUVWXYZabcdefghijklmnopqrst
 void etcd_hang_up(etcd_connection *c) {
     if (c->fd >= 0) close(c->fd);
     c->fd = -1;
+}
+
+void etcd_let_go(etcd_connection *c) {
+    etcd_hang_up(c);
+    free(c->in);
+    c->in = NULL;
+    c->room = 0;
 }
 
 /* The host and the port of the member whose turn it is. */
@@ -52,51 +59,72 @@ static int is_sent(int fd, const char *at, size_t bytes) {
     return 1;
 }
 
+/* Doubled where it is full. */
+static int has_room(etcd_connection *c) {
+    if (c->length + 1 < c->room) return 1;
+    size_t room = c->room ? 2 * c->room : FIRST_ROOM;
+    char *in = room > MOST_ROOM ? NULL : (char *)realloc(c->in, room);
+    if (!in) return 0;
+    c->in = in;
+    c->room = room;
+    return 1;
+}
+
 static int has_more(etcd_connection *c) {
-    ssize_t n = recv(c->fd, c->in + c->length, ETCD_ROOM - 1 - c->length, 0);
+    if (!has_room(c)) return 0;
+    ssize_t n = recv(c->fd, c->in + c->length, c->room - 1 - c->length, 0);
     if (n <= 0) return 0;
     c->in[c->length += (size_t)n] = 0;
     return 1;
 }
 
-/* Takes the sizes out of a body in chunks, in its place; 0 where its end isn't there yet, and nothing is changed. */
-static int is_unchunked(char *body) {
-    char *end;
-    for (char *at = body;;) {
-        unsigned long size = strtoul(at, &end, 16);
-        if (strncmp(end, "\r\n", 2)) return 0;
-        if (!size) break;
-        if (strlen(end + 2) < size + 2) return 0;
-        at = end + 2 + size + 2;
-    }
-    if (!strstr(end, "\r\n\r\n")) return 0; /* behind its trailers */
-    char *to = body;
-    for (char *at = body;;) {
-        unsigned long size = strtoul(at, &end, 16);
-        if (!size) break;
-        memmove(to, end + 2, size);
-        to += size;
-        at = end + 2 + size + 2;
-    }
-    *to = 0;
+/* So many bytes are there. */
+static int reaches(etcd_connection *c, size_t bytes) {
+    while (c->length < bytes)
+        if (!has_more(c)) return 0;
     return 1;
 }
 
-/* The body of a response in its place; 0 where it never comes whole. */
+/* Where the text ends that begins at or behind this place; 0 where it never comes. */
+static size_t end_of(etcd_connection *c, size_t from, const char *text) {
+    for (;;) {
+        const char *at = from <= c->length ? (const char *)memmem(c->in + from, c->length - from, text, strlen(text)) : NULL;
+        if (at) return (size_t)(at - c->in) + strlen(text);
+        if (!has_more(c)) return 0;
+    }
+}
+
+/* Of a body in chunks, which begins here, all bytes to the beginning of `in`: each has its size before it, and the last has none. */
+static int is_unchunked(etcd_connection *c, size_t at) {
+    size_t count = 0;
+    for (;;) {
+        size_t from = end_of(c, at, "\r\n");
+        unsigned long size = from ? strtoul(c->in + at, NULL, 16) : 0;
+        if (from && !size && end_of(c, from - 2, "\r\n\r\n")) break; /* after its trailers */
+        if (!size || size > MOST_ROOM || !reaches(c, from + size + 2)) return 0;
+        memmove(c->in + count, c->in + from, size);
+        count += size;
+        at = from + size + 2;
+    }
+    c->in[count] = 0;
+    return 1;
+}
+
+/* The body of a response at the beginning of `in`; 0 where it never comes whole. */
 static int has_body(etcd_connection *c, int *status) {
     c->length = 0;
+    if (!has_room(c)) return 0;
     c->in[0] = 0;
-    while (has_more(c)) {
-        char *head = strstr(c->in, "\r\n\r\n"), *length = strcasestr(c->in, "Content-Length: "), *body;
-        if (!head) continue;
-        body = head + 4;
-        int is_whole = length && length < head ? strlen(body) >= strtoul(length + 16, NULL, 10) : is_unchunked(body);
-        if (!is_whole) continue;
-        *status = atoi(c->in + strlen("HTTP/1.1 "));
-        memmove(c->in, body, strlen(body) + 1);
-        return 1;
-    }
-    return 0;
+    size_t body = end_of(c, 0, "\r\n\r\n");
+    if (!body) return 0;
+    *status = atoi(c->in + strlen("HTTP/1.1 "));
+    const char *length = strcasestr(c->in, "Content-Length: ");
+    if (!length || length > c->in + body) return is_unchunked(c, body);
+    size_t count = strtoul(length + 16, NULL, 10);
+    if (count > MOST_ROOM || !reaches(c, body + count)) return 0;
+    memmove(c->in, c->in + body, count);
+    c->in[count] = 0;
+    return 1;
 }
 
 etcd_status etcd_post(etcd_connection *c, const char *path, const char *body) {
@@ -120,8 +148,15 @@ static const char *found(etcd_part in, const char *text) {
     return in.from ? (const char *)memmem(in.from, (size_t)(in.to - in.from), text, strlen(text)) : NULL;
 }
 
+static const char begins[] = "\"response_";
+
+etcd_part etcd_next(etcd_part *left) {
+    const char *at = found(*left, begins);
+    left->from = at ? found((etcd_part){at + 1, left->to}, begins) : NULL;
+    return (etcd_part){at, left->from ? left->from : left->to};
+}
+
 etcd_part etcd_response(etcd_part of, int i) {
-    static const char begins[] = "\"response_";
     for (const char *at = found(of, "\"responses\":"); at; i--) {
         at = found((etcd_part){at + 1, of.to}, begins);
         if (!at || i) continue;
@@ -147,7 +182,7 @@ uint64_t etcd_number(etcd_part in, const char *name) {
 
 /* ---- base64 */
 
-const char *etcd_coded(char to[ETCD_TEXT], const void *bytes, size_t count) {
+const char *etcd_coded(char *to, const void *bytes, size_t count) {
     const uint8_t *b = (const uint8_t *)bytes;
     char *at = to;
     for (size_t i = 0; i < count; i += 3) {
@@ -161,12 +196,20 @@ const char *etcd_coded(char to[ETCD_TEXT], const void *bytes, size_t count) {
     return to;
 }
 
+/* -1 of what isn't in base64. */
+static int digit(char c) {
+    if (c >= 'A' && c <= 'Z') return c - 'A';
+    if (c >= 'a' && c <= 'z') return c - 'a' + 26;
+    if (c >= '0' && c <= '9') return c - '0' + 52;
+    return c == '+' ? 62 : c == '/' ? 63 : -1;
+}
+
 size_t etcd_decoded(const char *text, uint8_t *to, size_t room) {
     uint32_t x = 0;
     int bits = 0;
     size_t count = 0;
-    for (const char *place; *text && (place = strchr(sixty_four, *text)) && count < room; text++) {
-        x = x << 6 | (uint32_t)(place - sixty_four);
+    for (int place; count < room && (place = digit(*text)) >= 0; text++) {
+        x = x << 6 | (uint32_t)place;
         if ((bits += 6) < 8) continue;
         bits -= 8;
         to[count++] = (uint8_t)(x >> bits);

@@ -6,14 +6,14 @@
 #include <stddef.h>
 #include <stdint.h>
 
-enum { ETCD_ROOM = 16384, ETCD_TEXT = 128 };
+enum { ETCD_TEXT = 128 };
 
 /* A connection to one of the members "host:port,..", and the last response. */
 typedef struct {
     const char *members;
     int which, fd;       /* fd: -1 where there is none */
-    size_t length;
-    char in[ETCD_ROOM];  /* the body, ended by 0 */
+    size_t length, room;
+    char *in;            /* the body, ended by 0, in as much room as the longest so far took; etcd_let_go gives it back */
 } etcd_connection;
 
 /* ETCD_DONE: what it says stands in `in`; ETCD_REFUSED: the request is wrong, and nothing is done, with the reason there;
@@ -24,6 +24,7 @@ typedef enum { ETCD_LOST, ETCD_DONE, ETCD_REFUSED } etcd_status;
 etcd_status etcd_post(etcd_connection *c, const char *path, const char *body);
 int etcd_connected(etcd_connection *c);
 void etcd_hang_up(etcd_connection *c);
+void etcd_let_go(etcd_connection *c);
 
 /* Part of a response. */
 typedef struct { const char *from, *to; } etcd_part;
@@ -34,12 +35,16 @@ etcd_part etcd_whole(const etcd_connection *c);
  * counts as the first of those behind. */
 etcd_part etcd_response(etcd_part of, int i);
 
+/* The next response of those that are left, one within another as well, which is left no more; empty where there is none. */
+etcd_part etcd_next(etcd_part *left);
+
 /* What stands behind "name": there, without its quote, or NULL. */
 const char *etcd_field(etcd_part in, const char *name);
 uint64_t etcd_number(etcd_part in, const char *name);
 
-/* Base64 of so many bytes, at most 64; and the bytes of one, which ends with a quote: how many. */
-const char *etcd_coded(char to[ETCD_TEXT], const void *bytes, size_t count);
+/* Base64 of these bytes, four for each three and a 0: ETCD_TEXT has room for 93. And the bytes of one, which ends with a quote: how
+ * many. */
+const char *etcd_coded(char *to, const void *bytes, size_t count);
 size_t etcd_decoded(const char *text, uint8_t *to, size_t room);
 
 #endif

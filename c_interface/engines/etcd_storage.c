@@ -29,14 +29,6 @@ static const char *text(char to[TEXT], const char *format, ...) {
 
 /* ---- the way to them */
 
-/* One wire after the other. */
-static mz_carried receive(void *dc, int sent, const mz_wire *wires, size_t count, mz_reply *replies, mz_news *news) {
-    mz_carried carried = MZ_REPLIED;
-    (void)sent;
-    for (size_t i = 0; carried == MZ_REPLIED && i < count; i++) carried = etcd_dc_perform((etcd_dc *)dc, &wires[i], &replies[i], news);
-    return carried;
-}
-
 int storage_open(const char *folder, uint64_t session) {
     char members[TEXT];
     (void)folder;
@@ -44,17 +36,13 @@ int storage_open(const char *folder, uint64_t session) {
         text(members, "127.0.0.1:%d,127.0.0.1:%d,127.0.0.1:%d", port(d, 0, 0), port(d, 1, 0), port(d, 2, 0));
         components[d] = etcd_dc_open(members, session);
         if (!components[d]) return 0;
-        storage_components[d] = (mz_batched){components[d], NULL, receive, MZ_BATCH};
+        storage_components[d] = etcd_dc_batched(components[d]);
     }
     return 1;
 }
 
-int storage_begin(uint16_t dc, uint64_t session, uint64_t former) { return etcd_dc_begin(components[dc], session, former); }
-
-void storage_fill(uint16_t dc, int full) {
-    (void)dc;
-    (void)full;
-}
+/* A quota that is spent, or none. */
+void storage_fill(uint16_t dc, int full) { etcd_dc_quota(components[dc], (uint64_t)full); }
 
 /* A member's snapshot has what it has heard of: a read that all agree on comes before it. */
 static int is_saved(uint16_t dc, const char *beside) {
@@ -67,6 +55,15 @@ static int is_saved(uint16_t dc, const char *beside) {
         if (process_runs(read, output, NULL) && process_runs(save, output, NULL)) return 1;
     }
     return 0;
+}
+
+/* A snapshot from before the session isn't put back any more. */
+int storage_begin(uint16_t dc, uint64_t session, uint64_t former) {
+    char to[TEXT], beside[TEXT];
+    if (!etcd_dc_begin(components[dc], session, former)) return 0;
+    text(to, "%s/%d.snapshot", at_folder, dc);
+    text(beside, "%s/%d.snapshot.new", at_folder, dc);
+    return access(to, R_OK) || (is_saved(dc, beside) && rename(beside, to) == 0);
 }
 
 /* A snapshot is good if the mark was heard by this incarnation before it was taken, and behind it the incarnation is the same

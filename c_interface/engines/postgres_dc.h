@@ -1,6 +1,7 @@
-/* A data component over a PostgreSQL database (13 or later): a row of mz.records for each record, and a row of
- * mz.performed for each number that may come again, written by one function call, which is one transaction. So a number
- * is performed once, whatever is lost, repeated or killed. Records may be read by SQL, with what open transactions
+/* A data component over a PostgreSQL database (13 or later): a row of mz.records for each record, and what was answered to each
+ * number that may come again, a row of mz.performed for one that came alone, and one of mz.kept for a batch; written by one function
+ * call, which is one transaction. So a number is performed once, whatever is lost, repeated or killed. Batches of one database go one
+ * after the other. Records may be read by SQL, with what open transactions
  * have written so far: select key, mz.word(value, 0) from mz.records where tab = 0.
  *
  * The commit is asynchronous, unless it is asked for at once: a server that crashes loses its last ones. So does one whose
@@ -15,7 +16,7 @@
 #ifndef POSTGRES_DC_H
 #define POSTGRES_DC_H
 
-#include "mazzulpe.h"
+#include "mazzulpe_batch.h"
 
 typedef struct postgres_dc postgres_dc;
 
@@ -37,8 +38,19 @@ int postgres_dc_begin(postgres_dc *dc, uint64_t session, uint64_t former);
 
 /* MZ_REPLIED and the reply; MZ_RESTARTED and the news, where the wire is for another incarnation, and MZ_RETIRED where it is of
  * a session that isn't served: nothing is done; MZ_LOST where nobody answered or PostgreSQL refused, as with a full disk: send the wire again. What it refuses it
- * names on standard error. */
+ * names on standard error once a minute, and rests. */
 mz_carried postgres_dc_perform(postgres_dc *dc, const mz_wire *wire, mz_reply *reply, mz_news *news);
+
+/* A batch (mazzulpe_batch.h), in one statement: what postgres_dc_perform answers, of all. MZ_REPLIED: replies[i] to wires[i]. */
+mz_carried postgres_dc_perform_many(postgres_dc *dc, const mz_wire *wires, size_t count, mz_reply *replies, mz_news *news);
+
+/* The same in two steps, so that others are asked meanwhile: what is sent has to be received, by the same connection, which is
+ * what postgres_dc_send answers; negative: nothing was sent. */
+int postgres_dc_send(postgres_dc *dc, const mz_wire *wires, size_t count);
+mz_carried postgres_dc_receive(postgres_dc *dc, int sent, const mz_wire *wires, size_t count, mz_reply *replies, mz_news *news);
+
+/* For mz_carry_batches. */
+mz_batched postgres_dc_batched(postgres_dc *dc);
 
 /* Hears a low-water mark, under which nothing is open, and brings all to the disk, with it. 0 where nobody answered, or
  * it isn't this incarnation any more: then it is to be redone first. */

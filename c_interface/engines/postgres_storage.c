@@ -2,9 +2,7 @@
  * postgres and initdb. */
 #include "storage.h"
 #include "postgres_dc.h"
-#include "processes.h"
-#include <sys/shm.h>
-#include <sys/stat.h>
+#include "postgres_server.h"
 
 enum { ANSWERS_WITHIN = 30000 };
 
@@ -19,15 +17,16 @@ static const struct passwd *owner; /* who runs the servers: PostgreSQL refuses r
 /* What is made wrong, by SQL alone. */
 static const struct { const char *name, *sql; } controls[] = {
     {"forgetful",
-     "create function mz.forget() returns trigger language plpgsql as $$ begin return null; end $$;"
-     "create trigger forget before insert on mz.performed for each row execute function mz.forget()"},
+     "create function mz.forgets() returns trigger language plpgsql as $$ begin return null; end $$;"
+     "create trigger forget before insert on mz.performed for each row execute function mz.forgets();"
+     "create trigger forget before insert on mz.kept for each row execute function mz.forgets()"},
     {"untold",
      "create or replace function mz.begin_incarnation(known int8) returns void language sql as"
      " $$ insert into mz.alive select incarnation from mz.component $$"},
     {"raised",
      "create or replace function mz.raise_mark(w_session int8, w_incarnation int8, w_mark int8) returns bool language plpgsql as $$ begin"
      "  update mz.component set mark = greatest(mark, w_mark);"
-     "  delete from mz.performed where number <= w_mark; return true; end $$"},
+     "  perform mz.forget(w_mark); return true; end $$"},
     {"at_start",
      "create table mz.started as select pg_postmaster_start_time() as at;"
      "create or replace function mz.begin_incarnation(known int8) returns void language plpgsql as $$ begin"
@@ -38,21 +37,13 @@ static const struct { const char *name, *sql; } controls[] = {
      "  insert into mz.alive select incarnation from mz.component; end $$"},
 };
 
-/* One wire after the other. */
-static mz_carried receive(void *dc, int sent, const mz_wire *wires, size_t count, mz_reply *replies, mz_news *news) {
-    mz_carried carried = MZ_REPLIED;
-    (void)sent;
-    for (size_t i = 0; carried == MZ_REPLIED && i < count; i++) carried = postgres_dc_perform((postgres_dc *)dc, &wires[i], &replies[i], news);
-    return carried;
-}
-
 int storage_open(const char *folder, uint64_t session) {
     char words[400];
     for (int d = 0; d < DCS; d++) {
         snprintf(words, sizeof words, "host=%s port=%d user=postgres dbname=postgres", folder, 5432 + d);
         components[d] = postgres_dc_open(words, session, POSTGRES_DC_LATER);
         if (!components[d]) return 0;
-        storage_components[d] = (mz_batched){components[d], NULL, receive, MZ_BATCH};
+        storage_components[d] = postgres_dc_batched(components[d]);
     }
     return 1;
 }
@@ -69,6 +60,7 @@ void storage_fill(uint16_t dc, int full) {
         "    raise exception 'no room' using errcode = '53100'; end if;"
         "  return new; end $$;"
         "create or replace trigger no_room before insert on mz.performed for each row execute function mz.no_room();"
+        "create or replace trigger no_room before insert on mz.kept for each row execute function mz.no_room();"
         "create or replace trigger no_room before insert on mz.reserve for each row execute function mz.no_room();"
         "delete from mz.full; commit");
     if (full) (void)postgres_dc_execute(components[dc], "insert into mz.full values (true) returning set_config('synchronous_commit', 'on', true)");
@@ -80,33 +72,14 @@ int storage_keep(uint16_t dc, uint64_t incarnation, uint64_t mark) {
 
 /* ---- the servers */
 
-static const char *program(char *room, size_t bytes, const char *name) {
-    const char *folder = getenv("PG_BIN");
-    snprintf(room, bytes, "%s%s%s", folder ? folder : "", folder ? "/" : "", name);
-    return room;
-}
-
-/* Processes of a server that was killed live on for a moment, and bar the next one: as long as they hold its memory. */
-static void await_its_processes(int i) {
-    char path[320], line[200] = "";
-    int key, id = -1;
-    snprintf(path, sizeof path, "%s/postmaster.pid", servers[i].folder);
-    FILE *f = fopen(path, "r");
-    for (int k = 0; f && k < 7 && fgets(line, sizeof line, f); k++) continue;
-    if (f) fclose(f);
-    if (sscanf(line, "%d %d", &key, &id) != 2) return;
-    struct shmid_ds held;
-    while (shmctl(id, IPC_STAT, &held) == 0 && held.shm_nattch > 0) usleep(2000);
-}
-
 static void start(int i) {
     char name[300], port[16], sockets[320];
     snprintf(port, sizeof port, "%d", 5432 + i);
     snprintf(sockets, sizeof sockets, "%s", servers[i].folder);
     *strrchr(sockets, '/') = 0;
-    await_its_processes(i);
-    const char *words[] = {program(name, sizeof name, "postgres"), "-D", servers[i].folder, "-k", sockets, "-p", port,
-                           "-c", "listen_addresses=", "-c", servers_synced ? "fsync=on" : "fsync=off", "-c", "shared_buffers=16MB", "-c", "max_connections=40",
+    await_its_processes(servers[i].folder);
+    const char *words[] = {postgres_program(name, sizeof name, "postgres"), "-D", servers[i].folder, "-k", sockets, "-p", port,
+                           "-c", "listen_addresses=", "-c", servers_synced ? "fsync=on" : "fsync=off", "-c", "shared_buffers=16MB", "-c", "max_connections=100",
                            "-c", "log_min_messages=fatal", "-c", "log_min_error_statement=panic", NULL};
     servers[i].pid = process_begin(words, servers[i].output, owner);
 }
@@ -115,7 +88,7 @@ static int is_made(const char *folder, int i) {
     char name[300];
     snprintf(servers[i].folder, sizeof servers[i].folder, "%s/%d", folder, i);
     snprintf(servers[i].output, sizeof servers[i].output, "%s/%d.said", folder, i);
-    const char *made[] = {program(name, sizeof name, "initdb"), "-D", servers[i].folder, "-A", "trust", "-U", "postgres",
+    const char *made[] = {postgres_program(name, sizeof name, "initdb"), "-D", servers[i].folder, "-A", "trust", "-U", "postgres",
                           "--no-sync", "--no-instructions", NULL};
     const char *copied[] = {"cp", "-a", servers[0].folder, servers[i].folder, NULL};
     return process_runs(i ? copied : made, servers[i].output, i ? NULL : owner);

@@ -13,7 +13,7 @@ static const char *const c_words[] = {
     "reinterpret_cast", "requires", "restrict", "return", "short", "signed", "sizeof", "static", "static_assert", "static_cast",
     "struct", "switch", "template", "this", "thread_local", "throw", "true", "try", "typedef", "typeid", "typename", "typeof",
     "typeof_unqual", "union", "unsigned", "using", "virtual", "void", "volatile", "wchar_t", "while", "xor", "xor_eq", NULL};
-static const char *const c_own[] = {"tc", "txn", "record", "holder", "blocked", "args", "procedure", "code", NULL};
+static const char *const c_own[] = {"tc", "txn", "record", "holder", "blocked", "args", "procedure", "code", "pool", "held", "receipt", "values", NULL};
 
 /* Refusal, a tuple structure that the module uses, has its name among functions too. */
 static const char *const rust_words[] = {
@@ -93,13 +93,18 @@ static void name_slots(procedure *it) {
 
 /* ---- functions */
 
-/* A function of a procedure: its call, what says whether it is blocked, and below them what reads an access slot of that number. */
-enum { CALL = MZ_SLOTS, BLOCKED, FUNCTIONS };
+/* A function of a procedure: its call, what says whether it is blocked, its call by a pool, in C the type of what that held; and below
+ * them what reads an access slot of that number. */
+enum { CALL = MZ_SLOTS, BLOCKED, POOLED, HELD, FUNCTIONS };
 
-static int is_function(const procedure *it, unsigned what) { return what >= CALL || what < it->is.count; }
+static int is_function(const skeleton *of, const procedure *it, unsigned what) {
+    if (what == HELD) return of->in == &in_c && it->is.count > 0;
+    return what >= CALL || what < it->is.count;
+}
 
 static void make_function_name(const skeleton *of, const procedure *it, unsigned what, char name[FUNCTION]) {
-    const char *behind = what == CALL ? "" : what == BLOCKED ? "blocked" : it->slots[what];
+    static const char *const behinds[] = {"", "blocked", "call", "held"};
+    const char *behind = what < CALL ? it->slots[what] : behinds[what - CALL];
     snprintf(name, FUNCTION, "%s%s%s%s", of->prefix, it->is.name, *behind ? "_" : "", behind);
     if (is_in(of->in->words, name)) strcat(name, "_");
 }
@@ -117,7 +122,7 @@ static int are_apart(const skeleton *of, const procedure *it, const procedure *o
     char name[FUNCTION], others[FUNCTION];
     for (unsigned i = 0; i < FUNCTIONS; i++)
         for (unsigned k = 0; k < FUNCTIONS; k++) {
-            if ((it == other && k <= i) || !is_function(it, i) || !is_function(other, k)) continue;
+            if ((it == other && k <= i) || !is_function(of, it, i) || !is_function(of, other, k)) continue;
             make_function_name(of, it, i, name);
             make_function_name(of, other, k, others);
             if (strcmp(name, others)) continue;

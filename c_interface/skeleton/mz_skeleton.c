@@ -4,7 +4,8 @@
  *     mz_skeleton --rust bank.o > bank.rs
  *
  * Either has the file's bytes, and functions that load its procedures, admit a call of each, and read what its access slots
- * hold: bank_open, bank_move, bank_move_from; in Rust bank::open, bank::move_, bank::move_from. Their names in C begin with the
+ * hold: bank_open, bank_move, bank_move_from; in Rust bank::open, bank::move_, bank::move_from. bank_move_call makes a call by a
+ * pool (mazzulpe_pool.h), and says what its access slots held. Names in C begin with the
  * file's, or with NAME in `mz_skeleton FILE NAME`. Arguments have the names of the structure that the procedure takes
  * (PROCEDURE_OF, compiled with -g), else arg0, arg1 and on. An access slot is called as the argument that is its record's key,
  * or slotN where that is fixed; where two of a procedure would be called so, with _TABLE behind it, else _DC_TABLE, else

@@ -46,6 +46,12 @@ PROCEDURE_OF(match, type, self, DCS, None, _) {
     return args->type + args->self + args->DCS + args->None + args->_;
 }
 
+/* What a call by a pool is called there. */
+ACCESSES(pooled, TAKES(4), READS(0, 7, ARGUMENT(1)))
+PROCEDURE_OF(pooled, pool, held, receipt, values) {
+    return args->pool + args->held + args->receipt + args->values;
+}
+
 static inline __attribute__((always_inline)) void inserted(u64 slot) {
     record_buffer(slot)[0] = slot + 1;
     record_insert(slot);

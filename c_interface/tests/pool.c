@@ -7,7 +7,7 @@
 #include "deleting.h"
 #include "pool_storage.h"
 
-enum { MANY = 64, OPENING = 1000000, THREADS = 8, TURNS = 300, LONG = 600000 };
+enum { MANY = 64, OPENING = 1000000, THREADS = 8, TURNS = 300, LONG = 600000, REST = 4 /* ms */ };
 
 static char folder[256], path[280];
 
@@ -19,7 +19,7 @@ typedef struct {
     mz_code expected;
 } tally;
 
-typedef struct { mz_tc *tc; mz_log *log; mz_pool *pool; storage s; tally t; int unsynced; } bank;
+typedef struct { mz_tc *tc; mz_log *log; mz_pool *pool; storage s; tally t; } bank;
 
 /* A submitted call. */
 typedef struct { bank *of; uint64_t number; } submitted;
@@ -60,10 +60,10 @@ static void until(tally *t, const uint64_t *count, uint64_t is) {
 }
 
 /* Looks until the pool says so of itself. */
-static void until_counted(bank *b, uint64_t open, uint64_t waiting) {
+static void until_counted(bank *b, uint64_t open, uint64_t waiting, uint64_t queued) {
     const struct timespec moment = {0, 100000};
     mz_pool_counts n;
-    while (mz_pool_count(b->pool, &n) == MZ_OK && (n.open < open || n.waiting < waiting)) nanosleep(&moment, NULL);
+    while (mz_pool_count(b->pool, &n) == MZ_OK && (n.open < open || n.waiting < waiting || n.queued < queued)) nanosleep(&moment, NULL);
 }
 
 /* ---- a bank */
@@ -79,7 +79,7 @@ static void loaded(bank *b, const char *log) {
 }
 
 static void pooled(bank *b, size_t calls_at_once) {
-    const mz_pool_options options = {b->unsynced, 4, heard, &b->t};
+    const mz_pool_options options = {b->s.is_unsynced, REST, heard, &b->t};
     SEEN(mz_pool_open(b->tc, b->log, carry, &b->s, calls_at_once, &options, &b->pool) == MZ_OK);
 }
 
@@ -87,12 +87,12 @@ static void pooled(bank *b, size_t calls_at_once) {
 static void opened_over(bank *b, uint64_t rows, size_t calls_at_once, int unsynced) {
     char other[300];
     memset(b, 0, sizeof *b);
-    b->unsynced = unsynced;
     unlink(path);
     snprintf(other, sizeof other, "%s.session", path);
     unlink(other);
     tally_new(&b->t);
     storage_new(&b->s, rows);
+    b->s.is_unsynced = unsynced;
     loaded(b, path);
     pooled(b, calls_at_once);
 }
@@ -121,14 +121,16 @@ static int commits(bank *b, const char *name, uint64_t first, uint64_t second, u
     return call(b, name, first, second, third, &receipt) == MZ_OK && receipt.outcome == MZ_COMMITTED;
 }
 
+static void submit(bank *b, submitted *call, uint64_t number, const char *name, uint64_t first, uint64_t second) {
+    const uint64_t args[] = {first, second};
+    call->of = b;
+    call->number = number;
+    SEEN(mz_pool_submit(b->pool, name, args, 2, NULL, 0, told, call) == MZ_OK);
+}
+
 /* Submits `count` calls of a procedure of two arguments, on accounts from `account` on, or on that alone. */
 static void submits(bank *b, submitted *calls, uint64_t count, const char *name, uint64_t account, int apart) {
-    for (uint64_t i = 0; i < count; i++) {
-        const uint64_t args[] = {account + (apart ? i : 0), 5};
-        calls[i].of = b;
-        calls[i].number = i;
-        SEEN(mz_pool_submit(b->pool, name, args, 2, NULL, 0, told, &calls[i]) == MZ_OK);
-    }
+    for (uint64_t i = 0; i < count; i++) submit(b, &calls[i], i, name, account + (apart ? i : 0), 5);
 }
 
 /* ---- calls */
@@ -168,7 +170,7 @@ static void go_together(void) {
     SEEN(mz_log_count(b.log, &before) == MZ_OK);
     hold(c);
     submits(&b, calls, MANY, "deposit_here", 0, 1);
-    until_counted(&b, MANY, 0);
+    until_counted(&b, MANY, 0, 0);
     let_go(c);
     until(&b.t, &b.t.told, MANY);
     mz_pool_lock(b.pool);
@@ -183,6 +185,39 @@ static void go_together(void) {
     closed(&b);
 }
 
+static mz_carried receive(void *of, int sent, const mz_wire *wires, size_t count, mz_reply *replies, mz_news *news) {
+    component *c = (component *)of;
+    mz_carried carried = MZ_REPLIED;
+    (void)sent;
+    pthread_mutex_lock(&c->lock);
+    c->batches++;
+    for (size_t i = 0; i < count && carried == MZ_REPLIED; i++) carried = performed(c, &wires[i], &replies[i], news);
+    pthread_mutex_unlock(&c->lock);
+    return carried;
+}
+
+/* Over components that take batches, of which one isn't there: its calls wait, and no others. */
+static void over_batches(void) {
+    static bank b;
+    static submitted calls[MANY + 1];
+    mz_batched component = {&b.s.of[0], NULL, receive, 16};
+    const mz_pool_options options = {0, REST, heard, &b.t};
+    opened(&b, 100, 1);
+    mz_pool_close(b.pool, LONG);
+    SEEN(mz_pool_open_batched(b.tc, b.log, NULL, 1, MANY, &options, &b.pool) == MZ_BAD_ARGUMENT);
+    SEEN(mz_pool_open_batched(b.tc, b.log, &component, 1, MANY, &options, &b.pool) == MZ_OK);
+    b.t.expected = MZ_NOT_OVER;
+    submit(&b, &calls[MANY], 0, "deposit_there", 1, 5);
+    submits(&b, calls, MANY, "deposit_here", 0, 1);
+    until(&b.t, &b.t.committed, MANY);
+    until(&b.t, &b.t.silences, 1);
+    mz_pool_close(b.pool, 0);
+    SEEN(b.t.told == MANY + 1 && b.t.by_code == 1 && b.s.of[0].batches >= 2 * MANY / 16);
+    for (uint64_t a = 0; a < MANY; a++) SEEN(balance_at(&b.s, 0, a) == 5);
+    put_away(&b);
+    storage_free(&b.s);
+}
+
 /* Calls on one record: each waits for the one before it, and none is tried at each end. */
 static void wait_in_order(void) {
     static bank b;
@@ -191,7 +226,7 @@ static void wait_in_order(void) {
     opened(&b, 100, MANY);
     hold(&b.s.of[0]);
     submits(&b, calls, MANY, "deposit_here", 7, 0);
-    until_counted(&b, 1, MANY - 1);
+    until_counted(&b, 1, MANY - 1, 0);
     let_go(&b.s.of[0]);
     until(&b.t, &b.t.told, MANY);
     SEEN(b.t.committed == MANY && b.t.in_order == MANY && balance_at(&b.s, 0, 7) == 5 * MANY);
@@ -201,39 +236,32 @@ static void wait_in_order(void) {
     closed(&b);
 }
 
-/* One that waits for a record that others read goes on, though there are always others. */
-typedef struct { bank *of; uint64_t number, *left; } reader;
-
-static void reads_on(void *context, mz_code code, const mz_receipt *receipt) {
-    reader *r = (reader *)context;
-    const uint64_t args[] = {1, 100 + r->number};
-    SEEN(code == MZ_OK && receipt->outcome == MZ_COMMITTED);
-    uint64_t ends = __atomic_load_n(&r->of->t.committed, __ATOMIC_SEQ_CST);
-    if (!ends && mz_pool_submit(r->of->pool, "balances", args, 2, NULL, 0, reads_on, r) == MZ_OK) return;
-    __atomic_sub_fetch(r->left, 1, __ATOMIC_SEQ_CST);
-}
-
+/* A call that waits for a record that others read, of which each comes before the one before it ends: once it has been busy often,
+ * none is admitted before it. */
 static void nobody_starves(void) {
     static bank b;
-    static reader readers[8];
-    static submitted writer;
-    const struct timespec moment = {0, 100000};
-    uint64_t left = 8;
-    opened_over(&b, 1000, 4, 1);
-    SEEN(commits(&b, "deposit_here", 1, 10, 0));
-    for (uint64_t i = 0; i < 8; i++) {
-        SEEN(commits(&b, "deposit_there", 100 + i, 1, 0));
-        readers[i].of = &b;
-        readers[i].number = i;
-        readers[i].left = &left;
+    static submitted readers[MZ_POOL_PATIENCE + 2], writer;
+    component *there = &b.s.of[1];
+    uint64_t reads = 0;
+    opened(&b, 100, 4);
+    SEEN(commits(&b, "deposit_here", 1, 10, 0) && commits(&b, "deposit_there", 1, 10, 0));
+    hold(there);
+    submit(&b, &readers[0], reads++, "balances", 1, 1);
+    until_within(there);
+    submit(&b, &writer, MZ_POOL_PATIENCE, "deposit_here", 1, 5);
+    until_counted(&b, 1, 1, 0);
+    while (reads < MZ_POOL_PATIENCE) {
+        submit(&b, &readers[reads], reads, "balances", 1, 1);
+        until_counted(&b, 2, 1, 0);
+        let_one_go(there);
+        until(&b.t, &b.t.told, reads++);
+        until_within(there);
     }
-    for (uint64_t i = 0; i < 8; i++) {
-        const uint64_t args[] = {1, 100 + i};
-        SEEN(mz_pool_submit(b.pool, "balances", args, 2, NULL, 0, reads_on, &readers[i]) == MZ_OK);
-    }
-    submits(&b, &writer, 1, "deposit_here", 1, 0);
-    while (__atomic_load_n(&left, __ATOMIC_SEQ_CST)) nanosleep(&moment, NULL);
-    SEEN(b.t.committed == 1 && balance_at(&b.s, 0, 1) == 15);
+    submit(&b, &readers[reads], reads + 1, "balances", 1, 1);
+    until_counted(&b, 1, 1, 1);
+    let_go(there);
+    until(&b.t, &b.t.told, MZ_POOL_PATIENCE + 2);
+    SEEN(b.t.committed == MZ_POOL_PATIENCE + 2 && b.t.in_order == b.t.told && balance_at(&b.s, 0, 1) == 15);
     closed(&b);
 }
 
@@ -246,6 +274,7 @@ static void is_silent(void) {
     static char text[4096];
     opened(&b, 100, MANY);
     b.s.of[0].silent = 1 << 30;
+    uint64_t began = mz_pool_now();
     submits(&b, calls, MANY / 2, "deposit_here", 0, 1);
     until(&b.t, &b.t.silences, 1);
     for (uint64_t i = 0; i < 20; i++) SEEN(commits(&b, "deposit_there", i, 1, 0));
@@ -257,6 +286,7 @@ static void is_silent(void) {
     SEEN(strstr(text, "component 1: up, incarnation 0, rests 0 ms, OK\n"));
     pthread_mutex_lock(&b.s.of[0].lock);
     b.s.of[0].silent = 0;
+    SEEN(b.s.of[0].batches <= 4 + (mz_pool_now() - began) / 1000 / REST);
     pthread_mutex_unlock(&b.s.of[0].lock);
     until(&b.t, &b.t.committed, MANY / 2);
     SEEN(b.t.silences == 1 && b.t.answers == 1);
@@ -316,8 +346,9 @@ static void has_no_room(void) {
     SEEN(commits(&b, "deposit_here", 1, 1, 0) && commits(&b, "deposit_here", 2, 1, 0));
     SEEN(call(&b, "deposit_here", 3, 1, 0, &receipt) == MZ_OK && receipt.outcome == MZ_ENDED_NO_ROOM);
     b.s.of[0].full = 3;
+    uint64_t began = mz_pool_now();
     SEEN(call(&b, "deletes", 0, 0, 0, &receipt) == MZ_OK && receipt.outcome == MZ_ABORTED && b.s.of[0].full == 0);
-    SEEN(balance_at(&b.s, 0, 1) == 1);
+    SEEN(balance_at(&b.s, 0, 1) == 1 && mz_pool_now() - began >= (4 + 8 + 16) * REST * 1000);
     b.s.of[0].full = 4;
     SEEN(call(&b, "deletes", 0, 0, 0, &receipt) == MZ_NOT_OVER && call(&b, "deposit_here", 1, 1, 0, &receipt) == MZ_BUSY);
     SEEN(commits(&b, "deposit_here", 2, 1, 0) && mz_pool_checkpoint(b.pool, LONG, keep, &b.s) == MZ_TXNS_OPEN);
@@ -395,7 +426,7 @@ static void comes_back(void) {
         touches[i].of = &b;
         SEEN(mz_pool_submit(b.pool, "touch", &i, 1, NULL, 0, told, &touches[i]) == MZ_OK);
     }
-    until_counted(&b, MANY, 0);
+    until_counted(&b, MANY, 0, 0);
     until(&b.t, &b.t.silences, 1);
     mz_pool_close(b.pool, 0);
     SEEN(b.t.told == MANY && b.t.by_code == MANY && mz_open_count(b.tc) == MANY);
@@ -477,6 +508,7 @@ int main(void) {
     snprintf(path, sizeof path, "%s/log", folder);
     one_by_one();
     go_together();
+    over_batches();
     wait_in_order();
     nobody_starves();
     is_silent();

@@ -14,7 +14,7 @@ typedef struct {
     pthread_cond_t moved;     /* held, within or batches has changed */
     mz_dc *dc;
     mz_news news;
-    int held, within;         /* whoever carries waits; and does so now */
+    int held, passes, within; /* whoever carries waits; but so many batches; and does so now */
     int silent, full, losing; /* so many batches aren't answered; so many undos find no room; replies are lost, or others' */
     uint64_t restarts_each;   /* it restarts before each batch of that number; 0: it doesn't */
     mz_said said;             /* in the place of what it says, where it isn't 0 */
@@ -25,7 +25,7 @@ typedef struct {
     uint64_t sent;
 } component;
 
-typedef struct { component of[DCS]; mz_log *log; int is_alone; } storage;
+typedef struct { component of[DCS]; mz_log *log; int is_alone, is_unsynced; } storage;
 
 static inline void storage_new(storage *s, uint64_t rows) {
     memset(s, 0, sizeof *s);
@@ -104,7 +104,8 @@ static inline void carry(void *context, const mz_wire *wires, size_t count, mz_c
     if (c->restarts_each && c->batches % c->restarts_each == 0) component_restarts(c);
     if (count > c->largest) c->largest = count;
     pthread_cond_broadcast(&c->moved);
-    while (c->held) pthread_cond_wait(&c->moved, &c->lock);
+    while (c->held && !c->passes) pthread_cond_wait(&c->moved, &c->lock);
+    c->passes -= c->passes > 0;
     int silent = c->silent > 0;
     c->silent -= silent;
     for (size_t i = 0; i < count; i++) {
@@ -118,8 +119,10 @@ static inline void carry(void *context, const mz_wire *wires, size_t count, mz_c
 /* It keeps the mark, and forgets what it needn't know. */
 static inline int keep(void *context, uint16_t dc, uint64_t incarnation, uint64_t mark) {
     component *c = &((storage *)context)->of[dc];
+    const mz_log *log = ((storage *)context)->log;
     int forgotten = 0;
     pthread_mutex_lock(&c->lock);
+    SEEN(log->synced == log->written || ((storage *)context)->is_unsynced);
     int kept = incarnation == c->news.incarnation && mz_dc_hear_mark(c->dc, incarnation, mark) == MZ_OK &&
                mz_dc_checkpoint(c->dc) == MZ_OK && mz_dc_forget(c->dc, &forgotten) == MZ_OK;
     pthread_mutex_unlock(&c->lock);
@@ -135,6 +138,14 @@ static inline void hold(component *c) {
 static inline void let_go(component *c) {
     pthread_mutex_lock(&c->lock);
     c->held = 0;
+    pthread_cond_broadcast(&c->moved);
+    pthread_mutex_unlock(&c->lock);
+}
+
+/* Lets one batch go, which is on its way or the next. */
+static inline void let_one_go(component *c) {
+    pthread_mutex_lock(&c->lock);
+    c->passes++;
     pthread_cond_broadcast(&c->moved);
     pthread_mutex_unlock(&c->lock);
 }

@@ -70,7 +70,7 @@ C
     [ $name = dcs ] || refuses 1 "own.o: $name is a name of the skeleton itself" --rust own.o
 done
 # What would have one name: with the blocked one of another procedure, an access slot with a procedure, with another procedure's and
-# with its own procedure's; and where a word has _ behind it.
+# with its own procedure's; with its call by a pool, and what that held; and where a word has _ behind it.
 compiled own << 'C'
 ACCESSES(move, TAKES(0))
 PROCEDURE(move) { return 0; }
@@ -94,6 +94,18 @@ ACCESSES(pay_in, TAKES(2), READS(0, 0, ARGUMENT(0)), READS(0, 0, ARGUMENT(1)))
 PROCEDURE_OF(pay_in, here, all) { return 1; }
 C
 refuses 1 'own.o: pay_in access slot 1 is called own_pay_in_all, as another function is' own.o
+compiled own -g << 'C'
+ACCESSES(move, TAKES(1), WRITES(0, 0, ARGUMENT(0)))
+PROCEDURE_OF(move, call) { return 0; }
+C
+refuses 1 'own.o: move access slot 0 is called own_move_call, as another function is' own.o
+compiled own -g << 'C'
+ACCESSES(move, TAKES(1), WRITES(0, 0, ARGUMENT(0)))
+PROCEDURE(move) { return 0; }
+ACCESSES(move_held, TAKES(0))
+PROCEDURE(move_held) { return 0; }
+C
+refuses 1 'own.o: move_held is called own_move_held, as another function is' own.o
 compiled own -g << 'C'
 ACCESSES(many, TAKES(2), READS(0, 2, ARGUMENT(0)), READS(0, 1, ARGUMENT(0)), READS(0, 0, ARGUMENT(1)))
 PROCEDURE_OF(many, key, key_1) { return 0; }

@@ -1,5 +1,9 @@
 /* Calls by the headers that mz_skeleton makes: what they log is what calls by name and number log, with each argument in its place;
- * and what their access slots hold by name is what they hold by number. */
+ * and what their access slots hold by name is what they hold by number. The same of calls by a pool. */
+#if !defined(__cplusplus) && !defined(_GNU_SOURCE)
+#define _GNU_SOURCE
+#endif
+#include "mazzulpe_pool.h"
 #include "bank.h"
 #include "named.h"
 #include "named_again.h"
@@ -101,6 +105,48 @@ static void many_slots(mz_dc **dcs) {
     ended(MZ_COMMITTED);
 }
 
+static void carry_one(void *dcs, const mz_wire *wires, size_t count, mz_carried *carried, mz_reply *replies, mz_news *news) {
+    const mz_one_carry one = {carry, dcs};
+    mz_carry_each((void *)(uintptr_t)&one, wires, count, carried, replies, news);
+}
+
+/* What was admitted last, by a pool, with each argument in its place. */
+static void was_admitted(mz_pool *pool, const char *name, const uint64_t *args, size_t count) {
+    uint64_t procedure = 0;
+    mz_event event, last;
+    memset(&last, 0, sizeof last);
+    mz_pool_lock(pool);
+    SEEN(mz_find(typed, name, &procedure) == MZ_OK);
+    for (uint64_t place = 0; mz_log_at(typed, place, &event) == MZ_OK; place++)
+        if (event.kind == MZ_EVENT_ADMIT) last = event;
+    mz_pool_unlock(pool);
+    SEEN(last.procedure == procedure && last.count == count && (!count || !memcmp(last.args, args, count * sizeof *args)));
+}
+
+static int holds_so(const mz_slot_value *slot, uint64_t amount, int there) { return mz_little(slot->value, 8) == amount && slot->there == there; }
+
+/* By a pool: each argument and each slot in its place. */
+static void by_pool(mz_dc **dcs) {
+    static const uint64_t args[] = {21, 22, 13, 14, 15, 16, 17, 18};
+    mz_pool *pool;
+    mz_receipt receipt;
+    bank_move_held moved;
+    named_many_held many;
+    SEEN(mz_pool_open(typed, NULL, carry_one, dcs, 4, NULL, &pool) == MZ_OK);
+    SEEN(bank_deposit_here_call(pool, 21, 100, NULL, &receipt) == MZ_OK && receipt.outcome == MZ_COMMITTED);
+    SEEN(bank_deposit_there_call(pool, 22, 7, NULL, &receipt) == MZ_OK && receipt.outcome == MZ_COMMITTED);
+    SEEN(bank_move_call(pool, 21, 22, 13, &moved, &receipt) == MZ_OK && holds_so(&moved.from, 87, 1) && holds_so(&moved.to, 20, 1));
+    was_admitted(pool, "move", args, 3);
+    SEEN(named_mixed_call(pool, 21, 22, 13, 14, 15, 16, 17, 18, NULL, &receipt) == MZ_OK);
+    was_admitted(pool, "mixed", args, 8);
+    SEEN(named_nothing_call(pool, &receipt) == MZ_OK && named_half_call(pool, 21, 22, 13, 14, &receipt) == MZ_OK);
+    was_admitted(pool, "half", args, 4);
+    SEEN(named_many_call(pool, 21, 22, &many, &receipt) == MZ_OK && holds_so(&many.key_1, 1, 1) && holds_so(&many.key_0_2, 2, 1));
+    SEEN(holds_so(&many.key_1_2, 3, 1) && holds_so(&many.key_1_3_3, 5, 1) && holds_so(&many.key_1_3_4, 50, 1));
+    SEEN(named_pooled_call(pool, 21, 22, 13, 14, NULL, &receipt) == MZ_OK && named_pooled_call(NULL, 1, 2, 3, 4, NULL, &receipt) == MZ_BAD_ARGUMENT);
+    mz_pool_close(pool, 600000);
+}
+
 int main(void) {
     static const uint64_t args[] = {11, 12, 13, 14, 15, 16, 17, 18};
     mz_code code;
@@ -125,6 +171,7 @@ int main(void) {
     in_the_way();
     by_slot_name(dcs);
     many_slots(dcs);
+    by_pool(dcs);
     printf("typed calls: %s\n", failures ? "NOT as calls by name" : "as calls by name, and slots by name as by number");
     for (int dc = 0; dc < 2; dc++) mz_dc_free(dcs[dc]);
     mz_tc_free(typed);

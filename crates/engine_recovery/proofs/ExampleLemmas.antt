@@ -1,5 +1,5 @@
 -- Files and engines at their beginning.
-use Rattle.std.proofs.Common.{◌≡◌, ℕ, zero, suc, List, [], ◌∷◌, ◌++◌, map, length, length-append, None, arith, refl, sym, ◌∙◌, ap, subst}
+use Rattle.std.proofs.Common.{◌≡◌, ℕ, zero, suc, List, [], ◌∷◌, ◌++◌, map, length, length-append, arith, refl, sym, ◌∙◌, ap, subst}
 use Rattle.std.specs.Prelude.{replicate}
 use Rattle.tc_log.specs.declared.event.Event.{Event}
 use Rattle.history.specs.Places.{Begins}
@@ -11,16 +11,10 @@ use Rattle.tc_world.specs.Recovery.{note_of}
 use Rattle.tc_world.specs.Ahead.{Written, all_written}
 use Rattle.tc_world.specs.Examples.{empty_world}
 use Rattle.tc_world.proofs.ExampleLemmas.{empty_lived}
-use Rattle.engine_recovery.specs.Telling.{Contents, FileTells}
+use Rattle.engine_recovery.specs.Telling.{FileTells}
 use Rattle.engine_recovery.specs.Engine.{MayBeKilled}
+use Rattle.engine_recovery.specs.Examples.{header_alone, nothing_written, begun}
 use Rattle.engine_recovery.proofs.TurnLemmas.{whole_engine}
-
--- a file with a header alone
-abbrev pub header_alone : Contents
-header_alone = record { base = None; batches = [] }
-
-abbrev pub nothing_written : Header → Written
-nothing_written h = record { events = []; notes = replicate h.dcs Untold }
 
 pub begun_tells : (h : Header) → FileTells h header_alone (nothing_written h)
 begun_tells h = record { starts = tt; behind = tt; are = tt; numbers = tt; rows = record { rows = tt; prints = refl }; notes = refl }
@@ -29,8 +23,7 @@ untold_notes : (n : ℕ) → map note_of (replicate n untold) ≡ replicate n Un
 untold_notes zero = refl
 untold_notes (suc n) = ap (λ (notes : List SiteNote). Untold ∷ notes) (untold_notes n)
 
-pub begun_engine : (h : Header) (rows ops : ℕ)
-    → MayBeKilled h (record { file = header_alone; written = nothing_written h; world = empty_world h.dcs rows ops })
+pub begun_engine : (h : Header) (rows ops : ℕ) → MayBeKilled h (begun h rows ops)
 begun_engine h rows ops =
     let same : all_written (empty_world h.dcs rows ops) ≡ nothing_written h
     = ap (λ (notes : List SiteNote). let p : Written = record { events = []; notes = notes } in p) (untold_notes h.dcs) in

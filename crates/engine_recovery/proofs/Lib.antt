@@ -4,3 +4,4 @@ pub mod TurnLemmas
 pub mod BatchLemmas
 pub mod ExampleLemmas
 pub mod HandedLemmas
+pub mod BackLemmas

@@ -47,11 +47,11 @@ use Rattle.engine_recovery.specs.Engine.{is_in_memory, TakesInMemory}
 -- ---- what a crash forgets
 
 -- the state differs in no more than comes back from elsewhere
-abbrev Forgets : Core → Core → Type 0
+abbrev pub Forgets : Core → Core → Type 0
 Forgets c d = (h : List Event) (notes : List SiteNote) → recovered d h notes ≡ recovered c h notes
 
 -- so does the world, once what was sent isn't carried
-abbrev Same : Whole → Whole → Type 0
+abbrev pub Same : Whole → Whole → Type 0
 Same w v = (h : List Event) (notes : List SiteNote) → come_back h notes (left_with w.copies w.replies w.news v) ≡ come_back h notes w
 
 cored : (w : Whole) (c : Core) → Forgets w.core c → Same w (with_core w c)
@@ -160,7 +160,7 @@ redoes_same w v d redo.Finished o goes =
 redoes_same w v d redo.NotDown o goes = absurd (stopped _ o v goes)
 redoes_same w v d redo.NoDc o goes = absurd (stopped _ o v goes)
 
-step_same : (w v : Whole) (x : Step) (o : Outcome) → is_in_memory x ≡ true → Steps w x o v → Same w v
+pub step_same : (w v : Whole) (x : Step) (o : Outcome) → is_in_memory x ≡ true → Steps w x o v → Same w v
 step_same w v (step.Admit call) o own goes = subst (Same w) (sym goes.next) (none_more w)
 step_same w v (step.Ask t) o own goes =
     told_same w v t (after_ask w.core (ask_reply w.core t)) (ask_reply w.core t) o (ask_forgets w.core (ask_reply w.core t)) goes
@@ -180,7 +180,7 @@ step_same w v step.Cut o own goes = absurd (let bad : false ≡ true = own in cc
 
 -- ---- what was written tells of all that is carried, but of notes
 
-step_rest : (first : List Event) (w v : Whole) (x : Step) (o : Outcome) → is_in_memory x ≡ true → All (IsWrittenFor first) w.copies
+pub step_rest : (first : List Event) (w v : Whole) (x : Step) (o : Outcome) → is_in_memory x ≡ true → All (IsWrittenFor first) w.copies
     → Steps w x o v → Rest first w → Rest first v
 step_rest first w v (step.Admit call) o own all goes r = stay_rest first w v (step.Admit call) o refl tt all goes r
 step_rest first w v (step.Ask t) o own all goes r = stay_rest first w v (step.Ask t) o refl tt all goes r

@@ -1,3 +1,4 @@
 pub mod Telling
 pub mod Engine
 pub mod Since
+pub mod Examples

@@ -21,5 +21,7 @@
 mod examples;
 mod laws;
 
-pub use examples::{engines_that_do_not, files_that_tell};
+pub use examples::{
+    appends_that_tear, engines_that_come_back, engines_that_do_not, files_that_tell,
+};
 pub use laws::{files_are_read, handed_out_tells, killed_anywhere, may_write_ahead};

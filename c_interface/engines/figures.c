@@ -1,0 +1,303 @@
+/* How many transfers a second over an engine that people run, beside this engine alone, in one run:
+ *
+ *     figures_NAME OBJECT FOLDER SECONDS TURNS [unsynced]
+ *
+ * Each way is taken for so many seconds, one after the other, in so many turns, of which the median counts. The log is synced before wires go,
+ * and what the engine does alone before it is over; or neither. A transfer is one of two accounts of 2,000, at one data component. */
+#include "alone.h"
+#include "cpu.h"
+#include "mazzulpe_object.h"
+#include "mazzulpe_pool.h"
+#include "storage.h"
+#include <sys/resource.h>
+#include <sys/wait.h>
+
+enum { TURNS = 9, ROWS = 16, CALLS = 1024, THREADS_TODAY = 8, TRIES = 3 };
+#define OPENED 1000000
+
+/* Of a way, in each turn: transfers a second, and microseconds of processors a transfer, of the servers and of this process. */
+typedef struct { char name[80]; double rate[TURNS], servers[TURNS], own[TURNS]; } row;
+
+static row rows[ROWS];
+static int turn, row_count, synced;
+static double seconds;
+static const char *folder;
+static mz_tc *tc;
+static mz_log *log_of;
+static mz_pool *pool;
+static pthread_mutex_t lock = PTHREAD_MUTEX_INITIALIZER;
+static _Atomic uint64_t ended, open_calls;
+static _Atomic int is_over;
+
+static void fail(const char *what, mz_code c) {
+    fprintf(stderr, "%s: %s\n", what, c == MZ_OK ? "it failed" : mz_code_text(c));
+    exit(1);
+}
+
+static double now(void) {
+    struct timespec t;
+    clock_gettime(CLOCK_MONOTONIC, &t);
+    return (double)t.tv_sec + (double)t.tv_nsec / 1e9;
+}
+
+static double own_cpu(void) {
+    struct rusage u;
+    getrusage(RUSAGE_SELF, &u);
+    return (double)(u.ru_utime.tv_sec + u.ru_stime.tv_sec) + (double)(u.ru_utime.tv_usec + u.ru_stime.tv_usec) / 1e6;
+}
+
+/* Two accounts. */
+static void drawn(unsigned *seed, uint64_t args[3]) {
+    args[0] = (uint64_t)rand_r(seed) % ACCOUNTS;
+    args[1] = (args[0] + 1 + (uint64_t)rand_r(seed) % (ACCOUNTS - 1)) % ACCOUNTS;
+    args[2] = 1;
+}
+
+/* Sleeps while a way goes on, and notes what it did. */
+static void measured(const char *name) {
+    row *r = &rows[row_count++];
+    snprintf(r->name, sizeof r->name, "%s", name);
+    double servers = cpu_below(getppid(), getpid()), own = own_cpu(), began = now();
+    uint64_t before = ended;
+    usleep((useconds_t)(seconds * 1e6));
+    double count = (double)(ended - before);
+    r->rate[turn] = count / (now() - began);
+    r->servers[turn] = (cpu_below(getppid(), getpid()) - servers) / count * 1e6;
+    r->own[turn] = (own_cpu() - own) / count * 1e6;
+}
+
+/* ---- over the engine */
+
+static void submit(unsigned *seed);
+
+static void told(void *seed, mz_code code, const mz_receipt *receipt) {
+    if (code != MZ_OK || receipt->outcome != MZ_COMMITTED) fail("a transfer", code);
+    ended++;
+    if (is_over) open_calls--;
+    else submit((unsigned *)seed);
+}
+
+static void submit(unsigned *seed) {
+    uint64_t args[3];
+    drawn(seed, args);
+    mz_code c = mz_pool_submit(pool, "move_here", args, 3, NULL, 0, told, seed);
+    if (c != MZ_OK) fail("mz_pool_submit", c);
+}
+
+static void open_pool(size_t calls) {
+    const mz_pool_options options = {.unsynced = !synced};
+    mz_code c = mz_pool_open(tc, log_of, storage_carry_many, NULL, calls, &options, &pool);
+    if (c != MZ_OK) fail("mz_pool_open", c);
+}
+
+static int keep(void *context, uint16_t dc, uint64_t incarnation, uint64_t mark) {
+    (void)context;
+    return storage_keep(dc, incarnation, mark);
+}
+
+static void close_pool(void) {
+    mz_code c = mz_pool_checkpoint(pool, 10000, keep, NULL);
+    if (c != MZ_OK) fail("mz_pool_checkpoint", c);
+    mz_pool_close(pool, 10000);
+}
+
+static void by_calls(size_t calls) {
+    static unsigned seeds[CALLS];
+    char name[80];
+    snprintf(name, sizeof name, "pool, %zu calls open", calls);
+    open_pool(calls);
+    is_over = 0;
+    open_calls = calls;
+    for (size_t i = 0; i < calls; i++) submit(&seeds[i]);
+    measured(name);
+    is_over = 1;
+    while (open_calls) usleep(1000);
+    close_pool();
+}
+
+static void *calls_pool(void *context) {
+    unsigned seed = (unsigned)(size_t)context;
+    while (!is_over) {
+        uint64_t args[3];
+        mz_receipt receipt;
+        drawn(&seed, args);
+        mz_code c = mz_pool_call(pool, "move_here", args, 3, NULL, 0, &receipt);
+        if (c != MZ_OK || receipt.outcome != MZ_COMMITTED) fail("mz_pool_call", c);
+        ended++;
+    }
+    return NULL;
+}
+
+/* The log is written, and synced where it is to be, without the lock. */
+static void write_ahead(void) {
+    uint64_t until;
+    mz_code c = mz_log_write(log_of, &until);
+    pthread_mutex_unlock(&lock);
+    if (c == MZ_OK) c = synced ? mz_log_sync(log_of, until) : mz_log_flush(log_of, until);
+    if (c != MZ_OK) fail("the log", c);
+}
+
+static mz_carried carry_one(void *context, const mz_wire *wire, mz_reply *reply, mz_news *news) {
+    const mz_wire mine = *wire;
+    (void)context;
+    write_ahead();
+    mz_carried carried = storage_carry(&mine, reply, news);
+    pthread_mutex_lock(&lock);
+    return carried;
+}
+
+/* mz_run, a call a thread. */
+static void *calls_alone(void *context) {
+    unsigned seed = (unsigned)(size_t)context;
+    uint64_t procedure = 0, txn = 0, args[3];
+    mz_receipt receipt;
+    mz_next stopped = MZ_WAITS;
+    pthread_mutex_lock(&lock);
+    mz_find(tc, "move_here", &procedure);
+    while (!is_over) {
+        drawn(&seed, args);
+        if (mz_admit(tc, procedure, args, 3, &txn, NULL, NULL) != MZ_OK) continue; /* other accounts are free */
+        do
+            if (mz_run_until_over(tc, txn, carry_one, NULL, TRIES, &stopped) != MZ_OK) fail("mz_run_until_over", MZ_OK);
+        while (stopped != MZ_OVER);
+        if (mz_end(tc, txn, &receipt) != MZ_OK || receipt.outcome != MZ_COMMITTED) fail("a transfer", MZ_OK);
+        write_ahead();
+        ended++;
+        pthread_mutex_lock(&lock);
+    }
+    pthread_mutex_unlock(&lock);
+    return NULL;
+}
+
+static void by_threads(const char *name, int count, void *(*goes)(void *)) {
+    pthread_t threads[CALLS];
+    is_over = 0;
+    for (int i = 0; i < count; i++)
+        if (pthread_create(&threads[i], NULL, goes, (void *)(size_t)(i + 1))) fail("a thread", MZ_OK);
+    measured(name);
+    is_over = 1;
+    for (int i = 0; i < count; i++) pthread_join(threads[i], NULL);
+}
+
+static void over_engine(void) {
+    by_threads("mz_run, 1 thread", 1, calls_alone);
+    by_threads("mz_run, 8 threads", THREADS_TODAY, calls_alone);
+    for (size_t calls = 1; calls <= 512; calls *= 8) by_calls(calls);
+    open_pool(64);
+    by_threads("mz_pool_call, 64 threads", 64, calls_pool);
+    close_pool();
+}
+
+/* ---- the engine alone */
+
+static const alone_way *way;
+
+static void *transfers(void *context) {
+    unsigned seed = (unsigned)(size_t)context;
+    uint64_t args[3];
+    void *c = way->connected(folder, synced);
+    if (!c) fail("a connection", MZ_OK);
+    while (!is_over) {
+        drawn(&seed, args);
+        if (!way->transfer(c, args[0], args[1])) fail(way->name, MZ_OK);
+        ended++;
+    }
+    way->disconnect(c);
+    return NULL;
+}
+
+static void engine_alone(void) {
+    char name[80];
+    for (way = alone_ways; way->name; way++)
+        for (int connections = 1; connections <= 64; connections *= 8) {
+            if (!way->begin(folder, synced)) fail(way->name, MZ_OK);
+            snprintf(name, sizeof name, "%s, by %d", way->name, connections);
+            by_threads(name, connections, transfers);
+        }
+}
+
+/* ---- one run */
+
+static _Atomic uint64_t sum;
+
+static void deposited(void *context, mz_code code, const mz_receipt *receipt) {
+    (void)context;
+    if (code != MZ_OK || receipt->outcome != MZ_COMMITTED) fail("a deposit", code);
+    ended++;
+}
+
+static void open_accounts(void) {
+    open_pool(512);
+    for (uint64_t a = 0; a < ACCOUNTS; a++) {
+        const uint64_t args[] = {a, OPENED};
+        mz_code c = mz_pool_submit(pool, "deposit_here", args, 2, NULL, 0, deposited, NULL);
+        if (c == MZ_OK && !a) c = mz_pool_submit(pool, "deposit_there", args, 2, NULL, 0, deposited, NULL); /* so that it serves too */
+        if (c != MZ_OK) fail("a deposit", c);
+    }
+    while (ended < ACCOUNTS + 1) usleep(1000);
+    close_pool();
+}
+
+static void looked_at_sum(void) {
+    open_pool(1);
+    for (uint64_t a = 0; a < ACCOUNTS; a++) {
+        const uint64_t args[] = {a, 0};
+        mz_slot_value value = {0, {0}};
+        mz_receipt receipt;
+        if (mz_pool_call(pool, "balances", args, 2, &value, 1, &receipt) != MZ_OK) fail("balances", MZ_OK);
+        sum += mz_little(value.value, 8);
+    }
+    close_pool();
+    if (sum != (uint64_t)ACCOUNTS * OPENED) fail("the sum of all accounts", MZ_OK);
+}
+
+static int by_size(const void *a, const void *b) {
+    double x = *(const double *)a, y = *(const double *)b;
+    return x < y ? -1 : x > y;
+}
+
+static double median(double *of, int count) {
+    qsort(of, (size_t)count, sizeof *of, by_size);
+    return of[count / 2];
+}
+
+static void run(const char *object, int turns) {
+    char path[400];
+    mz_log_found found;
+    mz_code c;
+    tc = mz_tc_new(DCS, &c);
+    if (c == MZ_OK) c = mz_load_object_file(tc, object, NULL, NULL);
+    snprintf(path, sizeof path, "%s/log", folder);
+    if (c == MZ_OK) c = mz_log_open(tc, path, &log_of, &found);
+    if (c != MZ_OK || !storage_open(folder, mz_session(tc))) fail("it can't begin", c);
+    open_accounts();
+    for (turn = 0; turn < turns; turn++) {
+        row_count = 0;
+        over_engine();
+        engine_alone();
+    }
+    looked_at_sum();
+    printf("%-32s %12s %22s\n", synced ? "synced" : "not synced", "a second", "CPU us: servers + own");
+    for (int i = 0; i < row_count; i++)
+        printf("%-32s %12.0f %14.0f + %.0f\n", rows[i].name, median(rows[i].rate, turns), median(rows[i].servers, turns), median(rows[i].own, turns));
+    fflush(stdout);
+}
+
+int main(int argc, char **argv) {
+    int status = 1;
+    if (argc < 5) fail("figures OBJECT FOLDER SECONDS TURNS [unsynced]", MZ_OK);
+    folder = argv[2];
+    seconds = atof(argv[3]);
+    int turns = atoi(argv[4]);
+    synced = servers_synced = argc == 5;
+    if (turns < 1 || turns > TURNS || !servers_begin(folder, NULL)) return 2;
+    fflush(stdout);
+    pid_t child = fork();
+    if (child == 0) {
+        run(argv[1], turns);
+        _exit(0);
+    }
+    if (child > 0) waitpid(child, &status, 0);
+    servers_end();
+    return status != 0;
+}
