@@ -68,6 +68,7 @@ def unwritten_rows(folder):
     for given, why in UNREAD:
         yield Row(["log", "--picture", str(folder / "log.svg"), "-"], given, f"refused {why}\n".encode(), 1)
     yield Row(["log", "--picture", str(there), "-"], b"", b"refused log Empty\n", 1)
+    yield Row(["log", "--picture", "-", "-"], WHOLE, b"", 3, b"cannot write -: it names no file here; ./- does\n")
     yield Row(["log", "--picture", str(there), "-"], WHOLE, b"", 3, f"cannot write {there}: file exists\n".encode())
     yield Row(["log", "--picture", str(folder), "-"], WHOLE, b"", 3, f"cannot write {folder}: file exists\n".encode())
     missing = f"cannot write {nowhere}: no such file or directory\n".encode()

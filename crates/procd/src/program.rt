@@ -26,7 +26,7 @@ use log_part::Part;
 use partitioned_run::running::file_of;
 use program_files::explaining::explain;
 use program_files::following::{End, follow};
-use program_files::reading::{ReadFault, Reason, read_given};
+use program_files::reading::{MOST_CODE, ReadFault, Reason, read_given};
 use program_files::writing::tell;
 use report_texts::output::Output;
 use run_ground::stop::Stop;
@@ -93,11 +93,15 @@ fn fault_line(
     joined_line(alloc, what, file, why.as_str())
 }
 
-// Says that standard output isn't written, and why, where there is memory for it.
+// Says that standard output isn't written, and why, where there is memory for it. Where nobody reads it any more, as behind
+// `head`, nothing is said.
 fn cannot_write<E: Write>(alloc: Global, err: &mut E, error: io::Error) -> u8
     ensures status { result ≡ 3 }
     ensures told { TellsNotPrinted (stream (E.contents err.old) (E.contents err.new)) }
 {
+    if error.kind() == io::ErrorKind::BrokenPipe {
+        return FILE_FAULT;
+    }
     match fault_line(alloc, "cannot write", "", Some(&Reason::System(error))) {
         Ok(line) => {
             let _ = tell(err, line.as_str());
@@ -208,7 +212,7 @@ fn tell_report<F: Files<File = File>, W: Write, E: Write>(
         return cannot_write(alloc, &mut streams.err, error);
     }
     if let Some(terminal) = streams.progress.terminal {
-        explain(rt, alloc, terminal, wanted, text, report.status);
+        explain(rt, alloc, terminal, wanted, text, &report);
     }
     tell_notes(&mut streams.err, wanted.task.wants_figures(), &report);
     let status = report.status;
@@ -302,6 +306,14 @@ fn way_of<F: Files<File = File>>(rt: &F, wanted: &Wanted) -> Way
     }
 }
 
+// How many bytes are read at most of code.
+fn most_of_code(task: &Task) -> Option<usize> {
+    match task {
+        Task::Exec { .. } | Task::Dis { .. } => Some(MOST_CODE),
+        _ => None,
+    }
+}
+
 // Does what the words want.
 fn run_wanted<F: Files<File = File> + Clock + Threads + Wait + Sync, R: Read, W: Write, E: Write>(
     rt: &F,
@@ -317,7 +329,7 @@ fn run_wanted<F: Files<File = File> + Clock + Threads + Wait + Sync, R: Read, W:
     match way_of(rt, wanted) {
         Way::Refused(kind) => refuse_kind(alloc, kind, streams),
         Way::Followed(part) => run_on(rt, alloc, wanted.file, part, streams),
-        Way::Read => match read_given(rt, alloc, wanted.file, input) {
+        Way::Read => match read_given(rt, alloc, wanted.file, input, most_of_code(&wanted.task)) {
             Ok(text) => {
                 let text = text.as_slice();
                 let report = report_on(rt, alloc, &wanted.task, text, streams.progress);
