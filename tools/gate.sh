@@ -96,6 +96,7 @@ tries() {
         [ -z "$unproved" ] || echo "make -s -C out-unproved/c_interface check RATTLE_ARCHIVE=../lib/libmazzulpe.a"
         echo "tools/try_dist.py $unproved"
     fi
+    echo "tools/readme.py $unproved"
     for how in "" --forget --control; do
         echo "tools/cut_crashes.py --kills 20 $how"
         echo "tools/crashes.py --kills 5 --moves 1000 $how"

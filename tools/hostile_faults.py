@@ -192,8 +192,9 @@ UNREADABLE = [
     (".", "is a directory"),
     ("./none", "no such file or directory"),
     ("\u00e9/\u00e9", "no such file or directory"),
-    ("/dev/zero", "no end within 268435456 bytes"),
+    ("/dev/zero", "no end within {most} bytes"),
 ]
+MOST, MOST_OF_CODE = 268435456, 16777216
 # In a log's place these are refused instead.
 NO_FILES = {".": "directory", "/dev/zero": "character device"}
 
@@ -206,7 +207,8 @@ def from_system(faulty):
             kind = NO_FILES.get(name) if command.before[0] == "log" else None
             name = folder + name[1:] if name.startswith(".") else name
             words = [*map(str, command.before), name, *map(str, command.behind)]
-            end = Ran(3, b"", f"cannot read {name}: {why}\n".encode())
+            most = MOST_OF_CODE if command.before[0] in ("exec", "dis") else MOST
+            end = Ran(3, b"", f"cannot read {name}: {why.format(most=most)}\n".encode())
             if kind:
                 end = Ran(1, f"refused log NotAFile {kind}\n".encode(), b"")
             faulty.wanted(words, b"", program.run(words), [end])
@@ -214,7 +216,7 @@ def from_system(faulty):
     whole, limit = program.run(words).out, 100
     with open("/dev/full", "wb") as full:
         faulty.wanted([*words, "> /dev/full"], b"", to_file(program, words, full), [(3, b"cannot write: no space left on device\n")])
-    faulty.wanted([*words, "| nobody"], b"", to_closed_pipe(program, words), [(3, b"cannot write: broken pipe\n")])
+    faulty.wanted([*words, "| nobody"], b"", to_closed_pipe(program, words), [(3, b"")])
     path = faulty.program.folder / "limited"
     with open(path, "wb") as limited:
         ended = to_file(program, words, limited, lambda: limited_to(limit))

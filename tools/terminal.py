@@ -91,7 +91,14 @@ REFUSED = [
         f'line 1: "f\\u{{1b}}oo" {BEGINS}; of run these are dc, proc, first and call',
     ),
     ("run", "proc a 0\n", "line 1 F9 Order", ""),
+    ("verify", PUT + "first put 1 2\n", "line 13 F1 BadLine", 'line 13: "first" is a word of scripts for run alone'),
+    ("verify", PUT + "admit put 1 2\n", "line 13 F1 BadLine", 'line 13: "admit" is a word of scripts for world alone'),
+    ("run --workers 65", PUT, "G1 Workers", "--workers <N>: 65 is no number from 1 to 64"),
+    ("run --partitions --workers 0", PUT, "G1 Workers", "--workers <N>: 0 is no number from 1 to 64"),
+    ("run --tries 1001", PUT, "G2 Tries", "--tries <N>: 1001 is no number from 1 to 1000"),
 ]
+# Takes a line of progress away, before another line and at the end.
+CLEARED = "\r\x1b[K"
 TESTED = "test what record_read returned against 0 before its use"
 # Object files, what `verify` prints, and what the terminal is told.
 CURED = [
@@ -135,7 +142,7 @@ def refusals(procd):
     """Each script that is refused, where that went otherwise."""
     for command, script, why, told in REFUSED:
         wanted = (1, f"refused {why}\n", f"{told}\n" if told else "")
-        ended = on_terminal([procd, command, "-"], script.encode())
+        ended = on_terminal([procd, *command.split(), "-"], script.encode())
         if ended != wanted:
             yield f"{command} of {script!r}: {ended}, not {wanted}"
 
@@ -187,11 +194,11 @@ def long_run():
 def progress(procd):
     """A long run, where it told no progress or told it otherwise."""
     status, _, told = on_terminal([procd, "run", "--workers", "1", "-"], long_run())
-    lines = told.rstrip("\n").split("\r")[1:]
-    form = re.compile(rf"(\d+) of {CALLS} calls answered, (\d+) a second\x1b\[K")
-    if status or not lines or not told.endswith("\n"):
+    lines = told.split(CLEARED)[1:]
+    form = re.compile(rf"\x1b\[\?7l(\d+) of {CALLS} calls answered, (\d+) a second\x1b\[\?7h")
+    if status or len(lines) < 2 or lines[-1] or not told.startswith(CLEARED):
         yield f"progress: status {status}, {told!r}"
-    for line in lines:
+    for line in lines[:-1]:
         met = form.fullmatch(line)
         if not met or not 0 < int(met[1]) <= CALLS or int(met[2]) == 0:
             yield f"progress: {line!r}"

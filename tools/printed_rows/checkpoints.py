@@ -4,7 +4,7 @@ import pathlib
 import tempfile
 
 from procedures import GET, PUT
-from .row import Row
+from .row import Row, no_number
 
 SCRIPT = "dc 4 100\n" + PUT
 CALLS = "first put 1 7\ncall put 2 9\n"  # an insert each
@@ -48,4 +48,4 @@ def rows(_program):
     yield run("ten", told, "--checkpoint-over", "1", "--results", "--workers", "64", text=many)
     yield Row(["run", "--checkpoint", str(script)], b"", b"", 2, b"error: run takes --checkpoint and --checkpoint-over with --log alone")
     yield Row(["run", "--checkpoint-over", "9", str(script)], b"", b"", 2, b"error: run takes --checkpoint and --checkpoint-over with --log alone")
-    yield Row(["run", "--log", str(place / "nine"), "--checkpoint-over", "x", str(script)], b"", b"", 2, b"error: an ARG")
+    yield Row(["run", "--log", str(place / "nine"), "--checkpoint-over", "x", str(script)], b"", b"", 2, no_number("--checkpoint-over <BYTES>", "x"))

@@ -205,10 +205,15 @@ def rows(_program):
     yield Row([*audit, str(other), str(script)], b"", b"refused log Other procedures 1 script 2\n", 1)
     yield Row([*audit, "no-such-file", str(script)], b"", b"", 3, missing)
     yield Row([*audit, str(given), "no-such-file"], b"", b"", 3, missing)
-    yield Row([*audit, str(given)], b"", b"", 3, b"cannot read %b: it isn't UTF-8\n" % str(given).encode())
+    no_script = b"it is an object file, and no SCRIPT stands behind it\n"
+    yield Row([*audit, str(given)], b"", b"", 3, b"cannot read %b: %b" % (str(given).encode(), no_script))
     yield Row([*audit, str(script), str(given)], b"", b"", 3, b"cannot read %b: it isn't UTF-8\n" % str(given).encode())
+    beside = pathlib.Path(folder.name, "beside")
     for command in ("run", "world"):
+        beside.write_bytes(PLAIN)
+        yield Row([command, str(beside), "-"], b"dc 1 1\n", b"", 0)
+        yield Row([command, str(beside), "-"], b"", b"refused line 0 F9 Order\n", 1)
         yield Row([command, "-", "no-such-script"], TWO, b"", 3, b"cannot read no-such-script: no such file or directory\n")
         why = b"it begins with a byte order mark (U+FEFF); save it as UTF-8 without one"
         yield Row([command, "-", str(marked)], TWO, b"", 3, b"cannot read %b: %b\n" % (str(marked).encode(), why))
-        yield Row([command, "-"], b"\x7fELF\xff", b"", 3, b"cannot read -: it isn't UTF-8\n")
+        yield Row([command, "-"], b"\x7fELF", b"", 3, b"cannot read -: " + no_script)

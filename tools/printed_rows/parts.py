@@ -5,7 +5,7 @@ import tempfile
 
 from log_files import batch, frames
 from .logs import ENDED, LINES, OWN, ROWS, UNREAD
-from .row import Row
+from .row import Row, no_number
 
 WHOLE = frames(OWN, batch(*ROWS[:7]), batch(*ROWS[7:]))
 COUNT = len(ROWS)
@@ -13,7 +13,6 @@ MOST = 2**64 - 1
 ONE = b"error: log takes one of --rows, --audit, --picture and --follow"
 PARTS = b"error: log takes one of --from and --tail"
 UNWANTED = b"error: log takes --from and --tail with neither --rows nor --audit"
-NUMBER = b"error: an ARG, N, P or BYTES is no number of 64 bits in decimal"
 # Words behind `log`, before the file and behind it, and what standard error begins with. `{svg}` isn't there yet.
 WRONG = [
     (["--from", "1", "--tail", "1"], [], PARTS),
@@ -33,10 +32,12 @@ WRONG = [
     (["--audit"], ["object", "script", "more"], b"error: "),
     (["--picture", "{svg}"], ["script"], b"error: log takes a SOURCE with --audit alone"),
     (["--audit", "--tail", "1"], [], b"error: log --audit takes a SOURCE as well"),
-    (["--from", "x"], [], NUMBER),
-    (["--from", ""], [], NUMBER),
+    (["--from", "x"], [], no_number("--from <P>", "x")),
+    (["--from", ""], [], no_number("--from <P>", "")),
+    (["--from", "+1"], [], no_number("--from <P>", "+1")),
+    (["--tail", "+1"], [], no_number("--tail <N>", "+1")),
     (["--tail", "-1"], [], b"error: "),
-    (["--tail", str(MOST + 1)], [], NUMBER),
+    (["--tail", str(MOST + 1)], [], no_number("--tail <N>", str(MOST + 1))),
     (["--from", "1", "--from", "2"], [], b"error: "),
     (["--picture"], [], b"error: "),
 ]
@@ -67,6 +68,7 @@ def unwritten_rows(folder):
     for given, why in UNREAD:
         yield Row(["log", "--picture", str(folder / "log.svg"), "-"], given, f"refused {why}\n".encode(), 1)
     yield Row(["log", "--picture", str(there), "-"], b"", b"refused log Empty\n", 1)
+    yield Row(["log", "--picture", "-", "-"], WHOLE, b"", 3, b"cannot write -: it names no file here; ./- does\n")
     yield Row(["log", "--picture", str(there), "-"], WHOLE, b"", 3, f"cannot write {there}: file exists\n".encode())
     yield Row(["log", "--picture", str(folder), "-"], WHOLE, b"", 3, f"cannot write {folder}: file exists\n".encode())
     missing = f"cannot write {nowhere}: no such file or directory\n".encode()

@@ -16,6 +16,11 @@ def refused(words, given, why):
     return row(words, given, f"refused {why}\n", 1)
 
 
+def no_number(shown, given, numbers="of 64 bits"):
+    """How it is told that what was given there is no number."""
+    return f"error: invalid value '{given}' for '{shown}': no number {numbers} in decimal digits\n".encode()
+
+
 def events(*rows):
     """Rows of a log in hex, each filled up with zeros to its 96 bytes."""
     return "".join(f"{it:0<192}\n" for it in rows)

@@ -4,7 +4,7 @@ use Rattle.std.proofs.Common.{subst, ap, ap₂, ◌∙◌, ◌+◌, ◌∷◌, t
 use Rattle.std.specs.Prelude.{◌⊎◌, ◌&&◌, ◌||◌, is_none, ◌<◌, ◌≤◌, Result, slice_get}
 use Rattle.std.proofs.lemmas.Bool.{or_parts}
 use Rattle.command_line.proofs.Options.{some_some}
-use Rattle.clap.specs.Words.{HasKind, IsAmong, Kinds, Row, Text, all_of, fault_of, first_of, kind_of, one_of, subcommand_rows_of}
+use Rattle.clap.specs.Words.{HasKind, IsAmong, Kinds, Row, Text, all_of, fault_of, first_of, kind_of, one_of, subcommand_of, subcommand_rows_of}
 use Rattle.clap.specs.declared.error.Error.{Error}
 use Rattle.clap.specs.declared.error.kind.ErrorKind.{ErrorKind}
 use Rattle.std.specs.List.{list_any}
@@ -35,6 +35,7 @@ use Rattle.command_line.specs.Said.{
   procd_app,
   shows,
 }
+use Rattle.command_line.specs.Numbers.{SaysDigits, digits_of}
 use Rattle.command_line.specs.Said.{IsFlag, SaysCount, SaysLog, SaysNumber, SaysNumberIf, SaysNumbers, SaysPart}
 use Rattle.command_line.specs.Said.{SaysPartOf, SaysRun, SaysPartitioned, SaysMore, SaysNoMore, SaysWish, value_of}
 use Rattle.command_line.specs.Said.{Stats, Results, Tell, Metrics, Trace, Checkpoint, Over}
@@ -43,7 +44,9 @@ use Rattle.command_line.specs.Joining.LogWanted.{shown_wanted, audit_wanted}
 use Rattle.log_part.specs.declared.part.Part.{Part}
 use Rattle.log_part.specs.declared.part.Part.TheVariants.{Whole, From, Last}
 use Rattle.command_line.specs.Task.{Wish, Exec, Asm, Dis, Verify, World, Run, Partitioned, Log, command_name}
-use Rattle.command_line.specs.Wanted.{IsTaskOrNoMemory}
+use Rattle.command_line.specs.Wanted.{IsTaskOrNoMemory, IsNoArgument, IsFaultOfArguments, IsFaultOf, IsRightly}
+use Rattle.command_line.specs.declared.words.WordFault.TheVariants as fault
+use Rattle.command_line.specs.declared.numbers.NoNumber.TheVariants as no_number
 use Rattle.command_line.specs.declared.words.Task.{Task}
 use Rattle.command_line.specs.declared.words.WordFault.{WordFault}
 
@@ -343,18 +346,18 @@ name_of_rows m = composed _ (λ p. p.0) (out-ArgMatches m).subcommand
 
 -- ---- an option with a number
 
-pub number_there : (o : Option Text) (text : Text) (n : ℕ) → Some text ≡ o → SaysNumber text → n ≡ value_of text → SaysNumberIf o (Some n)
+pub number_there : (o : Option Text) (text : Text) (n : ℕ) → Some text ≡ o → SaysDigits text → n ≡ digits_of text → SaysNumberIf o (Some n)
 number_there None text n e says is = absurd (cc)
 number_there (Some said) text n e says is =
-    let same : text ≡ said = cc in (subst SaysNumber same says, ap Some (is ∙ ap value_of same))
+    let same : text ≡ said = cc in (subst SaysDigits same says, ap Some (is ∙ ap digits_of same))
 
 pub number_silent : (o : Option Text) → None ≡ o → SaysNumberIf o None
 number_silent None e = refl
 number_silent (Some said) e = absurd (cc)
 
-pub number_wrong : (o : Option Text) (text : Text) → Some text ≡ o → ¬ SaysNumber text → IsNoCount o
+pub number_wrong : (o : Option Text) (text : Text) → Some text ≡ o → ¬ SaysDigits text → IsNoCount o
 number_wrong None text e wrong = absurd (cc)
-number_wrong (Some said) text e wrong = let same : said ≡ text = cc in λ says. wrong (subst SaysNumber same says)
+number_wrong (Some said) text e wrong = let same : said ≡ text = cc in λ says. wrong (subst SaysDigits same says)
 
 -- it says one number, or none
 pub number_same : (o : Option Text) (m n : Option ℕ) → SaysNumberIf o m → SaysNumberIf o n → m ≡ n
@@ -518,6 +521,44 @@ more_numbers texts i said is says before k t less at =
       | inl same ↦ let found : Some said ≡ Some t = sym is ∙ ap (slice_get texts) (sym same) ∙ at in subst SaysNumber (some_some said t found) says
       | inr below ↦ before k t below at
     ]
+
+-- the fault of an argument is one of the rows that have it
+pub of_arguments : (rows : List Row) (texts : List Text) → texts ≡ unwrap_or (all_of (codes "arg") rows) [] → (e : WordFault)
+    → IsFaultOfArguments texts e → IsFaultOf rows e
+of_arguments rows texts same (fault.NotNumber (no_number.Argument given)) h = subst (λ (ts : List Text). IsNoArgument ts given.now) same h
+of_arguments rows texts same (fault.NotNumber (no_number.Value option given)) h = absurd h
+of_arguments rows texts same fault.Memory h = tt
+of_arguments rows texts same (fault.Clap e) h = absurd h
+of_arguments rows texts same fault.AuditAlone h = absurd h
+of_arguments rows texts same fault.ScriptAlone h = absurd h
+of_arguments rows texts same fault.TwoPurposes h = absurd h
+of_arguments rows texts same fault.TwoParts h = absurd h
+of_arguments rows texts same fault.PartUnwanted h = absurd h
+of_arguments rows texts same fault.CheckpointAlone h = absurd h
+of_arguments rows texts same fault.PartitionsBeside h = absurd h
+of_arguments rows texts same fault.NoCommand h = absurd h
+
+-- a name and rows that are those of an option are what it has
+pub pair_of : (o : Option (Text × List Row)) (name : Text) (rows : List Row) → Some name ≡ option_map (λ p. p.0) o
+    → Some rows ≡ option_map (λ p. p.1) o → o ≡ Some (name, rows)
+pair_of None name rows first second = absurd (cc)
+pair_of (Some (n, r)) name rows first second =
+    ap₂ (λ (x : Text) (y : List Row). Some (x, y)) (sym (some_some name n first)) (sym (some_some rows r second))
+
+-- a fault of rows is one of the words that they were read of
+pub rightly : (words : List Text) (name : Text) (rows : List Row) → subcommand_of procd_app words ≡ Some (name, rows) → (e : WordFault)
+    → IsFaultOf rows e → IsRightly words e
+rightly words name rows entered (fault.NotNumber refused) h = (name, (rows, (entered, h)))
+rightly words name rows entered (fault.Clap e) h = absurd h
+rightly words name rows entered fault.AuditAlone h = tt
+rightly words name rows entered fault.ScriptAlone h = tt
+rightly words name rows entered fault.TwoPurposes h = tt
+rightly words name rows entered fault.TwoParts h = tt
+rightly words name rows entered fault.PartUnwanted h = tt
+rightly words name rows entered fault.CheckpointAlone h = tt
+rightly words name rows entered fault.PartitionsBeside h = tt
+rightly words name rows entered fault.NoCommand h = tt
+rightly words name rows entered fault.Memory h = tt
 
 -- ---- faults of wrong words
 

@@ -1,4 +1,5 @@
 pub mod Task
 pub mod Said
+pub mod Numbers
 pub mod Wanted
 pub mod Joining

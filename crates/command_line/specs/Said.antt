@@ -8,6 +8,7 @@ use Rattle.clap.specs.declared.error.kind.ErrorKind.{ErrorKind}
 use Rattle.clap.specs.declared.error.kind.ErrorKind.TheVariants as kind
 use Rattle.clap.specs.declared.builder.ArgAction.TheVariants.{Set, SetTrue, Append}
 use Rattle.std.specs.Str.Parse.{IsNumeral, digits_value, without_leading_plus}
+use Rattle.command_line.specs.Numbers.{SaysDigits, digits_of}
 use Rattle.command_line.specs.Task.{Wish, Exec, Asm, Dis, Verify, World, Run, Partitioned, Log, command_name}
 use Rattle.command_line.specs.Task.{LogWish, Events, EventsAndRows, Follow, Audit, Picture}
 use Rattle.log_part.specs.declared.part.Part.{Part}
@@ -130,7 +131,7 @@ with_version = on_top (λ s. record s { has_version = true })
 unfoldable pub procd_app : App
 procd_app = with_version commands_app
 
--- the number that a text says in decimal, and whether it says one of 64 bits
+-- the number that an argument says in decimal, and whether it says one of 64 bits: a plus may stand before it
 abbrev pub value_of : Text → ℕ
 value_of t = digits_value 10 (without_leading_plus t)
 
@@ -153,12 +154,12 @@ SaysNumbers rows numbers =
 -- the number of an option, or this one where it isn't there
 abbrev pub SaysCount : Option Text → ℕ → ℕ → Type 0
 SaysCount None default n = n ≡ default
-SaysCount (Some text) default n = SaysNumber text × (n ≡ value_of text)
+SaysCount (Some text) default n = SaysDigits text × (n ≡ digits_of text)
 
 -- the same, or none
 abbrev pub SaysNumberIf : Option Text → Option ℕ → Type 0
 SaysNumberIf None n = n ≡ None
-SaysNumberIf (Some text) n = SaysNumber text × (n ≡ Some (value_of text))
+SaysNumberIf (Some text) n = SaysDigits text × (n ≡ Some (digits_of text))
 
 -- a checkpoint is asked for behind the last call, or where the log's file has more bytes than this
 abbrev pub wants_checkpoint : Bool → Option ℕ → Bool
@@ -204,8 +205,8 @@ SaysPartitioned rows workers tries audit strict log script =
 -- from which place on, or how many at the end: one of both at most, and the whole log where neither is said
 abbrev pub SaysPart : (from tail : Option Text) → Part → Type 0
 SaysPart None None part = part ≡ Whole
-SaysPart (Some text) None part = SaysNumber text × (part ≡ From (value_of text))
-SaysPart None (Some text) part = SaysNumber text × (part ≡ Last (value_of text))
+SaysPart (Some text) None part = SaysDigits text × (part ≡ From (digits_of text))
+SaysPart None (Some text) part = SaysDigits text × (part ≡ Last (digits_of text))
 SaysPart (Some text) (Some other) part = ⊥
 
 abbrev pub SaysPartOf : List Row → Part → Type 0
@@ -263,7 +264,7 @@ AreRefusals kinds = (kinds ≢ []) × (list_any shows kinds ≡ false)
 -- an option is there, and isn't a number of 64 bits
 abbrev pub IsNoCount : Option Text → Type 0
 IsNoCount None = ⊥
-IsNoCount (Some text) = ¬ SaysNumber text
+IsNoCount (Some text) = ¬ SaysDigits text
 
 -- a place or a count of events isn't a number, or both are there
 abbrev pub IsNoPart : (from tail : Option Text) → Type 0

@@ -7,4 +7,5 @@
 #![tactic(auto)]
 
 mod commands;
+pub mod numbers;
 pub mod words;

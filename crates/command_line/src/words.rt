@@ -2,9 +2,11 @@
 
 ghost use Rattle.std.specs.Prelude.{◌≡◌, ℕ, Bool, List, Option, [], true, false, Some, map, unwrap_or};
 ghost use Rattle.std.specs.Prelude.{IfOk, IfErr, IfSome, is_none, is_some, ◌&&◌, ◌||◌, option_map, codes};
-ghost use Rattle.clap.specs.Words.{kind_of, subcommand_of};
+ghost use Rattle.clap.specs.Words.{Row, kind_of, subcommand_of};
 ghost use Rattle.clap.specs.Words.{subcommand_rows_of, takes, rows_of, found_of, first_of, one_of, all_of, fault_of, FailsBy};
-ghost use Rattle.command_line.specs.Wanted.{WantsOrNoMemory, IsTaskOrNoMemory, IsNumbersOrNoMemory, IsWordFault, IsWrongOrNoMemory};
+ghost use Rattle.command_line.specs.Wanted.{WantsOrNoMemory, IsTaskOrNoMemory, IsNumbersOrNoMemory, IsWrongOrNoMemory};
+ghost use Rattle.command_line.specs.Wanted.{IsFaultOf, IsFaultOfArguments, IsRightly};
+ghost use Rattle.command_line.specs.Numbers.{id_of};
 ghost use Rattle.command_line.specs.Task.{Wish, LogWish, Run, Partitioned, Log, command_name, log_wish};
 ghost use Rattle.command_line.specs.Joining.LogWanted.{shown_wanted, audit_wanted};
 ghost use Rattle.command_line.specs.Said.{procd_app};
@@ -14,6 +16,7 @@ ghost use Rattle.command_line.specs.Said.{SaysNumbers, AllNumbers, IsFlag, value
 ghost use Rattle.command_line.specs.Said.{IsWrong, IsNoCount, IsNoPart, IsUnfit};
 
 use crate::commands::procd_command;
+use crate::numbers::{NoNumber, NumberOption, digits_of};
 use clap::error::ErrorKind;
 use clap::{ArgMatches, Error};
 use log_part::Part;
@@ -141,10 +144,9 @@ pub struct Wanted<'a> {
 
 /// Why nothing is wanted.
 #[derive(Drop)]
-pub enum WordFault {
+pub enum WordFault<'a> {
     Clap(Error),
-    /// An ARG, N, P or BYTES is no number of 64 bits in decimal.
-    NotNumber,
+    NotNumber(NoNumber<'a>),
     /// `log --audit` without a script.
     AuditAlone,
     /// `log` with a script, but without `--audit`.
@@ -173,56 +175,63 @@ fn said<'a, S: AsStr>(alloc: Global, words: &'a [S]) -> Result<ArgMatches<'a>, E
     command.try_get_matches_from(words)
 }
 
-// The numbers that texts say, or `None` where one says none.
-fn numbers_of(alloc: Global, texts: &[&str]) -> Result<Option<Vec<u64>>, AllocError>
-    ensures some { IfOk result (λ r. AllNumbers (map (λ s. s.now) texts.now)
-        → option_map (λ v. v.items) r ≡ Some (map value_of (map (λ s. s.now) texts.now))) }
-    ensures all { IfOk result (λ r. IfSome r (λ v. AllNumbers (map (λ s. s.now) texts.now))) }
+// The numbers that arguments say.
+fn numbers_of<'a>(alloc: Global, texts: &[&'a str]) -> Result<Vec<u64>, WordFault<'a>>
+    ensures numbers { AllNumbers (map (λ s. s.now) texts.now)
+        → IsNumbersOrNoMemory (map value_of (map (λ s. s.now) texts.now)) result }
+    ensures all { IfOk result (λ v. AllNumbers (map (λ s. s.now) texts.now)) }
+    ensures err { IfErr result (IsFaultOfArguments (map (λ s. s.now) texts.now)) }
 {
     let mut numbers = Vec::new(alloc);
-    for text in texts {
-        let Ok(n) = text.parse::<u64>() else {
-            return Ok(None);
+    for &given in texts {
+        let Ok(n) = given.parse::<u64>() else {
+            return Err(WordFault::NotNumber(NoNumber::Argument(given)));
         };
-        numbers.push(n)?;
+        if numbers.push(n).is_err() {
+            return Err(WordFault::Memory);
+        }
     }
-    Ok(Some(numbers))
+    Ok(numbers)
 }
 
 // The numbers that the arguments say.
-fn numbers_in(alloc: Global, matches: &ArgMatches) -> Result<Vec<u64>, WordFault>
+fn numbers_in<'a>(alloc: Global, matches: &ArgMatches<'a>) -> Result<Vec<u64>, WordFault<'a>>
     ensures numbers { (numbers : List ℕ) → SaysNumbers (rows_of (found_of matches.now)) numbers → IsNumbersOrNoMemory numbers result }
     ensures all { IfOk result (λ v. AllNumbers (unwrap_or (all_of (codes "arg") (rows_of (found_of matches.now))) [])) }
-    ensures err { IfErr result IsWordFault }
+    ensures err { IfErr result (IsFaultOf (rows_of (found_of matches.now))) }
 {
-    match numbers_of(alloc, matches.get_strs("arg").unwrap_or(&[])) {
-        Ok(Some(numbers)) => Ok(numbers),
-        Ok(None) => Err(WordFault::NotNumber),
-        Err(AllocError) => Err(WordFault::Memory),
-    }
+    numbers_of(alloc, matches.get_strs("arg").unwrap_or(&[]))
 }
 
 // The number that an option says, where it is there.
-fn number_of(matches: &ArgMatches, name: &str) -> Result<Option<u64>, WordFault>
-    ensures ok { IfOk result (SaysNumberIf (first_of name.now (rows_of (found_of matches.now)))) }
-    ensures err { IfErr result (λ e. IsWordFault e × IsNoCount (first_of name.now (rows_of (found_of matches.now)))) }
+fn number_of<'a>(
+    matches: &ArgMatches<'a>,
+    option: NumberOption,
+) -> Result<Option<u64>, WordFault<'a>>
+    ensures ok { IfOk result (SaysNumberIf (first_of (id_of option) (rows_of (found_of matches.now)))) }
+    ensures err { IfErr result (λ e. IsFaultOf (rows_of (found_of matches.now)) e
+        × IsNoCount (first_of (id_of option) (rows_of (found_of matches.now)))) }
 {
-    match matches.get_str(name) {
-        Some(text) => match text.parse::<u64>() {
-            Ok(n) => Ok(Some(n)),
-            Err(_) => Err(WordFault::NotNumber),
-        },
-        None => Ok(None),
+    let Some(given) = matches.get_str(option.id()) else {
+        return Ok(None);
+    };
+    match digits_of(given) {
+        Some(n) => Ok(Some(n)),
+        None => Err(WordFault::NotNumber(NoNumber::Value(option, given))),
     }
 }
 
 // The number that an option says, or this one where it isn't there.
-fn number_or(matches: &ArgMatches, name: &str, default: u64) -> Result<u64, WordFault>
-    ensures count { (n : ℕ) → SaysCount (first_of name.now (rows_of (found_of matches.now))) default n → result ≡ Ok n }
-    ensures wrong { IfOk result (λ n. ¬ IsNoCount (first_of name.now (rows_of (found_of matches.now)))) }
-    ensures err { IfErr result IsWordFault }
+fn number_or<'a>(
+    matches: &ArgMatches<'a>,
+    option: NumberOption,
+    default: u64,
+) -> Result<u64, WordFault<'a>>
+    ensures count { (n : ℕ) → SaysCount (first_of (id_of option) (rows_of (found_of matches.now))) default n → result ≡ Ok n }
+    ensures wrong { IfOk result (λ n. ¬ IsNoCount (first_of (id_of option) (rows_of (found_of matches.now)))) }
+    ensures err { IfErr result (IsFaultOf (rows_of (found_of matches.now))) }
 {
-    match number_of(matches, name)? {
+    match number_of(matches, option)? {
         Some(n) => Ok(n),
         None => Ok(default),
     }
@@ -291,12 +300,12 @@ fn partitioned_task<'a>(
     matches: &ArgMatches<'a>,
     workers: u64,
     tries: u64,
-) -> Result<Task<'a>, WordFault>
+) -> Result<Task<'a>, WordFault<'a>>
     ensures task { (audit strict : Bool) (log script : Option (List ℕ))
         → SaysPartitioned (rows_of (found_of matches.now)) workers tries audit strict log script
         → IsTaskOrNoMemory (Partitioned workers tries audit strict log script) result }
     ensures wrong { IfOk result (λ task. ¬ SaysMore (rows_of (found_of matches.now))) }
-    ensures err { IfErr result IsWordFault }
+    ensures err { IfErr result (IsFaultOf (rows_of (found_of matches.now))) }
 {
     if says_more(matches) {
         return Err(WordFault::PartitionsBeside);
@@ -312,7 +321,7 @@ fn partitioned_task<'a>(
 }
 
 // How calls are to be run.
-fn run_task<'a>(matches: &ArgMatches<'a>) -> Result<Task<'a>, WordFault>
+fn run_task<'a>(matches: &ArgMatches<'a>) -> Result<Task<'a>, WordFault<'a>>
     ensures task { (workers tries : ℕ) (stats audit strict results tell : Bool) (metrics trace log : Option (List ℕ)) (checkpoint : Bool) (over : Option ℕ)
         (script : Option (List ℕ)) → SaysRun (rows_of (found_of matches.now)) workers tries stats audit strict results tell metrics trace log checkpoint over script
         → IsTaskOrNoMemory (Run workers tries stats audit strict results tell metrics trace log checkpoint over script) result }
@@ -320,11 +329,11 @@ fn run_task<'a>(matches: &ArgMatches<'a>) -> Result<Task<'a>, WordFault>
         → SaysPartitioned (rows_of (found_of matches.now)) workers tries audit strict log script
         → IsTaskOrNoMemory (Partitioned workers tries audit strict log script) result }
     ensures wrong { IfOk result (λ task. ¬ IsUnfit (codes "run") (rows_of (found_of matches.now))) }
-    ensures err { IfErr result IsWordFault }
+    ensures err { IfErr result (IsFaultOf (rows_of (found_of matches.now))) }
 {
-    let workers = number_or(matches, "workers", WORKERS)?;
-    let tries = number_or(matches, "tries", TRIES)?;
-    let over = number_of(matches, "checkpoint-over")?;
+    let workers = number_or(matches, NumberOption::Workers, WORKERS)?;
+    let tries = number_or(matches, NumberOption::Tries, TRIES)?;
+    let over = number_of(matches, NumberOption::Bytes)?;
     let checkpoint = flag_of(matches, "checkpoint");
     let log = text_of(matches, "log");
     if is_logless(log, checkpoint, over) {
@@ -351,14 +360,14 @@ fn run_task<'a>(matches: &ArgMatches<'a>) -> Result<Task<'a>, WordFault>
 }
 
 // Which of a log's events are wanted.
-fn part_of(matches: &ArgMatches) -> Result<Part, WordFault>
+fn part_of<'a>(matches: &ArgMatches<'a>) -> Result<Part, WordFault<'a>>
     ensures ok { IfOk result (SaysPart (first_of (codes "from") (rows_of (found_of matches.now)))
         (first_of (codes "tail") (rows_of (found_of matches.now)))) }
-    ensures err { IfErr result (λ e. IsWordFault e × IsNoPart (first_of (codes "from") (rows_of (found_of matches.now)))
+    ensures err { IfErr result (λ e. IsFaultOf (rows_of (found_of matches.now)) e × IsNoPart (first_of (codes "from") (rows_of (found_of matches.now)))
         (first_of (codes "tail") (rows_of (found_of matches.now)))) }
 {
-    let from = number_of(matches, "from")?;
-    let tail = number_of(matches, "tail")?;
+    let from = number_of(matches, NumberOption::From)?;
+    let tail = number_of(matches, NumberOption::Tail)?;
     match (from, tail) {
         (None, None) => Ok(Part::Whole),
         (Some(place), None) => Ok(Part::From(place)),
@@ -373,9 +382,9 @@ fn shown_task<'a>(
     follow: bool,
     picture: Option<&'a str>,
     part: Part,
-) -> Result<LogTask<'a>, WordFault>
+) -> Result<LogTask<'a>, WordFault<'a>>
     ensures ok { IfOk result (λ task. shown_wanted rows follow (option_map (λ path. path.now) picture.entry) part ≡ Some (log_wish task)) }
-    ensures err { IfErr result (λ e. IsWordFault e × (shown_wanted rows follow (option_map (λ path. path.now) picture.entry) part ≡ None)) }
+    ensures err { IfErr result (λ e. ((rows : List Row) → IsFaultOf rows e) × (shown_wanted rows follow (option_map (λ path. path.now) picture.entry) part ≡ None)) }
 {
     match picture {
         Some(_) if rows || follow => Err(WordFault::TwoPurposes),
@@ -401,9 +410,9 @@ fn audit_task<'a>(
     part: Part,
     source: &'a str,
     script: Option<&'a str>,
-) -> Result<LogTask<'a>, WordFault>
+) -> Result<LogTask<'a>, WordFault<'a>>
     ensures ok { IfOk result (λ task. audit_wanted shown part source.entry.now (option_map (λ path. path.now) script.entry) ≡ Some (log_wish task)) }
-    ensures err { IfErr result (λ e. IsWordFault e × (audit_wanted shown part source.entry.now (option_map (λ path. path.now) script.entry) ≡ None)) }
+    ensures err { IfErr result (λ e. ((rows : List Row) → IsFaultOf rows e) × (audit_wanted shown part source.entry.now (option_map (λ path. path.now) script.entry) ≡ None)) }
 {
     if shown {
         return Err(WordFault::TwoPurposes);
@@ -415,10 +424,10 @@ fn audit_task<'a>(
 }
 
 // What is to be done with a log's file.
-fn log_task<'a>(matches: &ArgMatches<'a>) -> Result<Task<'a>, WordFault>
+fn log_task<'a>(matches: &ArgMatches<'a>) -> Result<Task<'a>, WordFault<'a>>
     ensures task { (wanted : LogWish) → SaysLog (rows_of (found_of matches.now)) wanted → IsTaskOrNoMemory (Log wanted) result }
     ensures wrong { IfOk result (λ task. ¬ IsUnfit (codes "log") (rows_of (found_of matches.now))) }
-    ensures err { IfErr result IsWordFault }
+    ensures err { IfErr result (IsFaultOf (rows_of (found_of matches.now))) }
 {
     let rows = flag_of(matches, "rows");
     let audit = flag_of(matches, "audit");
@@ -438,11 +447,15 @@ fn log_task<'a>(matches: &ArgMatches<'a>) -> Result<Task<'a>, WordFault>
 }
 
 // The task of the command of this name.
-fn task_of<'a>(alloc: Global, name: &str, matches: &ArgMatches<'a>) -> Result<Task<'a>, WordFault>
+fn task_of<'a>(
+    alloc: Global,
+    name: &str,
+    matches: &ArgMatches<'a>,
+) -> Result<Task<'a>, WordFault<'a>>
     ensures task { (wish : Wish) → name.now ≡ command_name wish → SaysWish (rows_of (found_of matches.now)) wish
         → IsTaskOrNoMemory wish result }
     ensures wrong { IfOk result (λ task. ¬ IsUnfit name.now (rows_of (found_of matches.now))) }
-    ensures err { IfErr result IsWordFault }
+    ensures err { IfErr result (IsFaultOf (rows_of (found_of matches.now))) }
 {
     match name {
         "exec" => Ok(Task::Exec {
@@ -466,9 +479,10 @@ fn task_of<'a>(alloc: Global, name: &str, matches: &ArgMatches<'a>) -> Result<Ta
 }
 
 /// What the words want.
-pub fn wanted_of<'a, S: AsStr>(alloc: Global, words: &'a [S]) -> Result<Wanted<'a>, WordFault>
+pub fn wanted_of<'a, S: AsStr>(alloc: Global, words: &'a [S]) -> Result<Wanted<'a>, WordFault<'a>>
     ensures wanted { (file : List ℕ) (wish : Wish) → Says (map S.text words.entry.now) file wish → WantsOrNoMemory file wish result }
     ensures wrong { IsWrong (map S.text words.entry.now) → IsWrongOrNoMemory result }
+    ensures told { IfErr result (IsRightly (map S.text words.entry.now)) }
 {
     let matches = match said(alloc, words) {
         Ok(matches) => matches,

@@ -1,6 +1,6 @@
 //! The program, over readers and writers that are handed in.
 
-ghost use Rattle.std.specs.Prelude.{◌≡◌, ◌++◌, ℕ, List, Option, IfOk, IfErr, IfSome, None, Some, Ok, Err, true, false};
+ghost use Rattle.std.specs.Prelude.{◌≡◌, ◌⊎◌, ◌++◌, ℕ, List, Option, IfOk, IfErr, IfSome, None, Some, Ok, Err, true, false};
 ghost use Rattle.std.specs.Prelude.{codes, map, string_bytes};
 ghost use Rattle.command_line.specs.Said.{Says, IsWrong, shows};
 ghost use Rattle.command_line.specs.Wanted.{WantsOrNoMemory, IsWrongOrNoMemory};
@@ -19,13 +19,14 @@ use crate::report::{ReportFault, report_on};
 use crate::streams::Streams;
 use clap::Error;
 use clap::error::ErrorKind;
+use command_line::numbers::NoNumber;
 use command_line::words::{LogTask, Task, Wanted, WordFault, wanted_of};
 use disk_file::{FileFault, FileKind};
 use log_part::Part;
 use partitioned_run::running::file_of;
 use program_files::explaining::explain;
 use program_files::following::{End, follow};
-use program_files::reading::{ReadFault, Reason, read_given};
+use program_files::reading::{MOST_CODE, ReadFault, Reason, read_given};
 use program_files::writing::tell;
 use report_texts::output::Output;
 use run_ground::stop::Stop;
@@ -92,11 +93,15 @@ fn fault_line(
     joined_line(alloc, what, file, why.as_str())
 }
 
-// Says that standard output isn't written, and why, where there is memory for it.
+// Says that standard output isn't written, and why, where there is memory for it. Where nobody reads it any more, as behind
+// `head`, nothing is said.
 fn cannot_write<E: Write>(alloc: Global, err: &mut E, error: io::Error) -> u8
     ensures status { result ≡ 3 }
     ensures told { TellsNotPrinted (stream (E.contents err.old) (E.contents err.new)) }
 {
+    if error.kind() == io::ErrorKind::BrokenPipe {
+        return FILE_FAULT;
+    }
     match fault_line(alloc, "cannot write", "", Some(&Reason::System(error))) {
         Ok(line) => {
             let _ = tell(err, line.as_str());
@@ -207,7 +212,7 @@ fn tell_report<F: Files<File = File>, W: Write, E: Write>(
         return cannot_write(alloc, &mut streams.err, error);
     }
     if let Some(terminal) = streams.progress.terminal {
-        explain(rt, alloc, terminal, wanted, text, report.status);
+        explain(rt, alloc, terminal, wanted, text, &report);
     }
     tell_notes(&mut streams.err, wanted.task.may_tell(), &report);
     let status = report.status;
@@ -301,6 +306,14 @@ fn way_of<F: Files<File = File>>(rt: &F, wanted: &Wanted) -> Way
     }
 }
 
+// How many bytes are read at most of code.
+fn most_of_code(task: &Task) -> Option<usize> {
+    match task {
+        Task::Exec { .. } | Task::Dis { .. } => Some(MOST_CODE),
+        _ => None,
+    }
+}
+
 // Does what the words want.
 fn run_wanted<F: Files<File = File> + Clock + Threads + Wait + Sync, R: Read, W: Write, E: Write>(
     rt: &F,
@@ -316,7 +329,7 @@ fn run_wanted<F: Files<File = File> + Clock + Threads + Wait + Sync, R: Read, W:
     match way_of(rt, wanted) {
         Way::Refused(kind) => refuse_kind(alloc, kind, streams),
         Way::Followed(part) => run_on(rt, alloc, wanted.file, part, streams),
-        Way::Read => match read_given(rt, alloc, wanted.file, input) {
+        Way::Read => match read_given(rt, alloc, wanted.file, input, most_of_code(&wanted.task)) {
             Ok(text) => {
                 let text = text.as_slice();
                 let report = report_on(rt, alloc, &wanted.task, text, streams.progress);
@@ -388,9 +401,17 @@ fn wrong_words<E: Write>(err: &mut E, text: &str) -> u8
     MISUSE
 }
 
-// Why words are wrong.
-const NO_NUMBER: &str = "error: an ARG, N, P or BYTES is no number of 64 bits in decimal";
+// Tells which word is no number.
+fn wrong_number<E: Write>(alloc: Global, refused: &NoNumber, err: &mut E) -> u8
+    ensures { (result ≡ 2) ⊎ (result ≡ 4) }
+{
+    match refused.text(alloc) {
+        Ok(text) => wrong_words(err, text.as_str()),
+        Err(AllocError) => no_memory(err),
+    }
+}
 
+// Why words are wrong.
 const AUDIT_ALONE: &str =
     "error: log --audit takes a SOURCE as well: the script, or object file, whose procedures the log was written for";
 
@@ -426,7 +447,7 @@ fn refuse_words<W: Write, E: Write>(
     match fault {
         WordFault::Clap(error) => misuse(alloc, error, streams),
         WordFault::Memory => no_memory(&mut streams.err),
-        WordFault::NotNumber => wrong_words(&mut streams.err, NO_NUMBER),
+        WordFault::NotNumber(refused) => wrong_number(alloc, refused, &mut streams.err),
         WordFault::AuditAlone => wrong_words(&mut streams.err, AUDIT_ALONE),
         WordFault::ScriptAlone => wrong_words(&mut streams.err, SCRIPT_ALONE),
         WordFault::TwoPurposes => wrong_words(&mut streams.err, TWO_PURPOSES),

@@ -1,6 +1,6 @@
 //! What a command says of the text that was read.
 
-ghost use Rattle.std.specs.Prelude.{◌≡◌, ℕ, List, Option, true, Some, None, not, is_none, is_some, option_map, IfOk, IfErr, string_bytes};
+ghost use Rattle.std.specs.Prelude.{◌≡◌, ℕ, List, Option, true, Some, None, not, is_none, is_some, option_map, IfOk, IfErr, codes, string_bytes};
 ghost use Rattle.object_file.specs.Elf.{is_elf};
 ghost use Rattle.text_commands.specs.ObjectVerification.{IsVerification};
 ghost use Rattle.script_loading.specs.Loading.{beginning_of};
@@ -20,7 +20,7 @@ use log_part::Part;
 use object_file::is_elf;
 use partitioned_run::fault::Fault;
 use partitioned_run::running::running_partitioned;
-use program_files::reading::{ReadFault, Reason, TextFault, read_file, text_of};
+use program_files::reading::{ReadFault, Reason, TextFault, read_file, script_of, text_of};
 use program_files::writing::tell;
 use report_texts::output::Output;
 use run_calls::answering::Manner;
@@ -78,7 +78,10 @@ impl From<AllocError> for ReportFault<'_> {
     }
 }
 
-// All that the file of a script or of an object file has.
+/// Standard input, as a file.
+const STANDARD_INPUT: &str = "/dev/stdin";
+
+// All that the file of a script or of an object file has, or standard input, where its path is `-`.
 fn read_script<'a, R: Files>(
     rt: &R,
     alloc: Global,
@@ -86,7 +89,8 @@ fn read_script<'a, R: Files>(
 ) -> Result<Vec<u8>, ReportFault<'a>>
     ensures { IfErr result (IsScriptFault path.entry.now) }
 {
-    match read_file(rt, alloc, path) {
+    let file = if path == "-" { STANDARD_INPUT } else { path };
+    match read_file(rt, alloc, file, None) {
         Ok(text) => Ok(text),
         Err(ReadFault::Memory) => Err(ReportFault::Memory),
         Err(ReadFault::Unread(reason)) => Err(ReportFault::Unread(path, Some(reason))),
@@ -119,7 +123,7 @@ fn source_of<'t, 'a>(
     ensures script { IfErr result (IsBesideFault (option_map (λ path. path.now) path.entry)) }
 {
     let Some(path) = path else {
-        let text = text_of(file)?;
+        let text = script_of(file)?;
         return Ok(Source { object: None, text });
     };
     match text_of(beside) {
@@ -156,7 +160,11 @@ fn logged<'a, R: Files<File = File> + Clock + Threads + Wait + Sync>(
         (string_bytes r.lines)) }
     ensures fault { IfErr result (IsLogFault (Some path.entry.now)) }
     ensures text { IfErr result IsOfText }
+    ensures named { IfOk result (λ _. ¬ (path.entry.now ≡ codes "-")) }
 {
+    if path == "-" {
+        return Err(ReportFault::Unwritten(path, Some(Reason::Dash)));
+    }
     match running_logged(rt, alloc, path, source, options) {
         Ok(ran) => Ok(ran.report),
         Err(Stop::Unread(fault)) => Err(ReportFault::Unread(path, Some(Reason::File(fault)))),
@@ -244,6 +252,16 @@ fn world_of<'a, R: Files>(
     Ok(world(alloc, behind, source)?)
 }
 
+// The text of a script, which stands beside an object file, if there is one.
+fn text_beside<'t>(object: Option<&[u8]>, script: &'t [u8]) -> Result<&'t str, TextFault>
+    ensures { IfOk result (λ text. text.now ≡ script.now) }
+{
+    match object {
+        Some(_) => text_of(script),
+        None => script_of(script),
+    }
+}
+
 // What an audit finds of a log's file beside the script of this path, and an object file, if there is one.
 fn audit_beside<'a, R: Files>(
     rt: &R,
@@ -257,7 +275,7 @@ fn audit_beside<'a, R: Files>(
     ensures script { IfErr result (IsScriptFault path.entry.now) }
 {
     let script = read_script(rt, alloc, path)?;
-    match text_of(script.as_slice()) {
+    match text_beside(object, script.as_slice()) {
         Ok(text) => Ok(auditing(alloc, file, Source { object, text })?),
         Err(fault) => Err(ReportFault::Unread(path, Some(Reason::Text(fault)))),
     }
@@ -284,8 +302,12 @@ fn audit_report<'a, R: Files>(
 
 // Writes a new file; what is begun of one that isn't written whole is taken away.
 fn write_new<'a, R: Files>(rt: &R, path: &'a str, text: &str) -> Result<(), ReportFault<'a>>
-    ensures { IfErr result (IsPictureFault path.entry.now) }
+    ensures fault { IfErr result (IsPictureFault path.entry.now) }
+    ensures named { IfOk result (λ _. ¬ (path.entry.now ≡ codes "-")) }
 {
+    if path == "-" {
+        return Err(ReportFault::Unwritten(path, Some(Reason::Dash)));
+    }
     let mut file = match File::create_new(rt, path) {
         Ok(file) => file,
         Err(error) => return Err(ReportFault::Unwritten(path, Some(Reason::System(error)))),

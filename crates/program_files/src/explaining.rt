@@ -1,10 +1,12 @@
 //! What a terminal is told behind a report: what is wrong with a script, and which lines of C the verifier refuses.
 
 use crate::reading::{read_file, text_of};
+use command_line::numbers::NumberOption;
 use command_line::words::{PartitionedTask, RunTask, Task, Wanted};
 use disk_file::FileKind;
 use object_file::is_elf;
 use report_texts::explanation::explanation;
+use report_texts::output::Output;
 use scripts::keyword::Command;
 use source_lines::SourceLine;
 use std::alloc::{AllocError, Global};
@@ -56,7 +58,7 @@ fn source_text<R: Files<File = File>>(rt: &R, alloc: Global, path: &str) -> Opti
     if FileKind::of(&known.file_type()).is_some() || known.len() > MOST_SOURCE {
         return None;
     }
-    read_file(rt, alloc, path).ok()
+    read_file(rt, alloc, path, None).ok()
 }
 
 // The folder of a path, with the slash behind it.
@@ -135,29 +137,57 @@ fn explain_object<R: Files<File = File>>(
     }
 }
 
-/// Says on a terminal, behind a report of this status, what is wrong with a script that was refused for a bad line or a bad
-/// number, and of refused procedures of an object file which lines of C they are, and how they are mended.
+// The workers and the tries of a run.
+fn counts_of(task: &Task) -> Option<(u64, u64)> {
+    match task {
+        Task::Run(task) => Some((task.workers, task.tries)),
+        Task::Partitioned(task) => Some((task.workers, task.tries)),
+        _ => None,
+    }
+}
+
+// The option whose number is out of its range, and the number, where these lines refuse a run for it.
+fn out_of_range(task: &Task, lines: &str) -> Option<(NumberOption, u64)> {
+    let (workers, tries) = counts_of(task)?;
+    match lines {
+        "refused G1 Workers\n" => Some((NumberOption::Workers, workers)),
+        "refused G2 Tries\n" => Some((NumberOption::Tries, tries)),
+        _ => None,
+    }
+}
+
+// Says what is wrong with a script that was refused for a bad line or a bad number.
+fn explain_script(alloc: Global, terminal: &mut Stderr, task: &Task, file: &[u8]) {
+    let (Some(command), Ok(text)) = (script_command(task), text_of(file)) else {
+        return;
+    };
+    if let Ok(Some(line)) = explanation(alloc, command, text) {
+        let _ = terminal.write_all(line.as_bytes());
+    }
+}
+
+/// Says on a terminal, behind a report that refuses something, which numbers an option takes whose number is out of range;
+/// what is wrong with a script that was refused for a bad line or a bad number; and of refused procedures of an object
+/// file which lines of C they are, and how they are mended.
 pub fn explain<R: Files<File = File>>(
     rt: &R,
     alloc: Global,
     mut terminal: Stderr,
     wanted: &Wanted,
     file: &[u8],
-    status: u8,
+    report: &Output,
 ) {
-    if status == 0 {
+    if report.status == 0 {
         return;
     }
-    if is_elf(file) {
-        if takes_object(&wanted.task) {
-            explain_object(rt, alloc, &mut terminal, wanted.file, file);
-        }
+    if let Some((option, given)) = out_of_range(&wanted.task, report.lines.as_str()) {
+        let (shown, range) = (option.shown(), option.range());
+        let _ = write!(terminal, "{shown}: {given} is no number {range}\n");
         return;
     }
-    let (Some(command), Ok(text)) = (script_command(&wanted.task), text_of(file)) else {
-        return;
-    };
-    if let Ok(Some(line)) = explanation(alloc, command, text) {
-        let _ = terminal.write_all(line.as_bytes());
+    if !is_elf(file) {
+        explain_script(alloc, &mut terminal, &wanted.task, file);
+    } else if takes_object(&wanted.task) {
+        explain_object(rt, alloc, &mut terminal, wanted.file, file);
     }
 }

@@ -17,6 +17,9 @@ use worker_pool::{Acknowledgement, Answer, Gate, RunSpec, Stage};
 // A line of progress a second, in nanoseconds.
 const TOLD_EACH: u64 = 1_000_000_000;
 
+/// Takes away what stands in a terminal's line.
+const CLEARED: &str = "\r\x1b[K";
+
 /// Who is told of calls while a run lasts, and behind it.
 #[derive(Clone, Copy)]
 pub struct Listeners<'a> {
@@ -247,7 +250,10 @@ impl Waits {
         let Some(mut each) = self.each else {
             return;
         };
-        if let Ok(line) = answer_line(self.alloc, "told", call, answer) {
+        let cleared = if self.shows_progress() { CLEARED } else { "" };
+        if let Ok(line) = answer_line(self.alloc, "told", call, answer)
+            && let Ok(line) = format!(in self.alloc; "{cleared}{line}")
+        {
             let _ = each.write_all(line.as_bytes());
         }
     }
@@ -265,19 +271,23 @@ impl Waits {
         {
             let total = self.total;
             let rate = u128::from(answered) * 1_000_000_000 / u128::from(now.max(1));
-            // Behind a longer line of before, the rest of the line is erased.
+            // What passes the terminal's width is not wrapped: the next one would clear the last row of it alone.
             let _ = write!(
                 terminal,
-                "\r{answered} of {total} calls answered, {rate} a second\x1b[K"
+                "{CLEARED}\x1b[?7l{answered} of {total} calls answered, {rate} a second\x1b[?7h"
             );
         }
     }
 
-    /// Ends the line of progress, if there is one.
+    // Whether a line of progress stands on the terminal.
+    fn shows_progress(&self) -> bool {
+        self.terminal.is_some() && self.told.load(Ordering::SeqCst) > 0
+    }
+
+    /// Takes the line of progress away, if there is one.
     pub fn end(&self) {
-        let is_told = self.told.load(Ordering::SeqCst) > 0;
-        if let (Some(mut terminal), true) = (self.terminal, is_told) {
-            let _ = terminal.write_all(b"\n");
+        if let (Some(mut terminal), true) = (self.terminal, self.shows_progress()) {
+            let _ = terminal.write_all(CLEARED.as_bytes());
         }
     }
 

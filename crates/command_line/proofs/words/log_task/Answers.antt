@@ -1,4 +1,4 @@
-use Rattle.std.proofs.Common.{◌≡◌, ◌∙◌, Bool, Option, Some, None, option_map, ap, ap₂, sym, refl}
+use Rattle.std.proofs.Common.{◌≡◌, ◌∙◌, Bool, Option, Some, None, Err, option_map, ap, ap₂, sym, refl, rules}
 use Rattle.clap.specs.Words.{Text, found_of, rows_of}
 use Rattle.command_line.specs.Task.{Log, log_wish}
 use Rattle.command_line.specs.Joining.LogWanted.{audit_wanted}
@@ -69,3 +69,13 @@ returns-in_ok-audit_task-in-Some-2-clause-wrong c =
     c.flag_of-audit.ensures c.flag_of-follow.ensures c.text_of.ensures c.text_of-picture.ensures c.in_ok-part.ensures.ok
     c.in-Some.field-0.now c.is_shown-shown.result _ (log_wish c.in_ok-audit_task-in-Some-2.field-0) (ap (option_map (λ s. s.now)) c.in-Some.is)
     c.if-not-audit.false c.is_shown-shown.ensures c.in_ok-audit_task-in-Some-2.ensures.ok
+
+pub returns-in_err-shown_task-in-None-2-clause-err : goal.returns-in_err-shown_task-in-None-2-clause-err
+returns-in_err-shown_task-in-None-2-clause-err c =
+    let is : c.from_residual-in_err-shown_task-in-None-2.result ≡ Err c.in_err-shown_task-in-None-2.field-0.0 = search rules in
+    rw is (c.in_err-shown_task-in-None-2.ensures.err.0 (rows_of (found_of c.args.matches.now)))
+
+pub returns-in_err-audit_task-in-Some-2-clause-err : goal.returns-in_err-audit_task-in-Some-2-clause-err
+returns-in_err-audit_task-in-Some-2-clause-err c =
+    let is : c.from_residual-in_err-audit_task-in-Some-2.result ≡ Err c.in_err-audit_task-in-Some-2.field-0.0 = search rules in
+    rw is (c.in_err-audit_task-in-Some-2.ensures.err.0 (rows_of (found_of c.args.matches.now)))

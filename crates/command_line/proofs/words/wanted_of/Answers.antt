@@ -1,10 +1,10 @@
-use Rattle.std.proofs.Common.{◌≡◌, ◌∙◌, ap, sym, subst, map, Some, None, List, option_map, codes}
+use Rattle.std.proofs.Common.{◌≡◌, ◌∙◌, ap, sym, subst, map, Some, None, Err, List, option_map, codes, rules}
 use Rattle.clap.specs.Words.{Row, Text, first_of, found_of, rows_of}
 use Rattle.clap.proofs.WalkLemmas.{first_value-rows}
 use Rattle.command_line.specs.Said.{SaysWish, IsUnfit, Refused, NoCommand, Unfit}
 use Rattle.command_line.specs.Task.{command_name}
 use Rattle.command_line.proofs.Options.{some_some, none_some}
-use Rattle.command_line.proofs.Wishes.{name_of_rows, wrong_shows_nothing}
+use Rattle.command_line.proofs.Wishes.{name_of_rows, pair_of, rightly, wrong_shows_nothing}
 use Rattle.command_line.proofs.words.wanted_of.Goals as goal
 
 pub returns-in_default-get_str-clause-wanted : goal.returns-in_default-get_str-clause-wanted
@@ -54,3 +54,13 @@ returns-clause-wrong g c = λ wrong.
           ∙ ap (option_map (λ (p : Text × List Row). p.0)) entered) in
           c.in_ok-task.ensures.wrong (subst (λ (n : Text). IsUnfit n (rows_of found)) (sym name_is) (subst (IsUnfit name) (sym rows_is) unfit))
     ]
+
+pub returns-in_err-task-clause-told : goal.returns-in_err-task-clause-told
+returns-in_err-task-clause-told g c =
+    let found = found_of c.in-Some.inner.now in
+    let m = c.in-Ok.matches in
+    let rows = ap (option_map (λ p. rows_of (found_of p.1.now))) (sym c.in-Some.is) ∙ c.subcommand.ensures.rows in
+    let name = ap (option_map (λ p. p.0.now)) (sym c.in-Some.is) ∙ c.subcommand.ensures.name ∙ name_of_rows m in
+    let is : c.from_residual.result ≡ Err c.in_err-task.field-0.0 = search rules in
+    let entered = sym c.in-Ok.ensures.ok ∙ pair_of _ _ _ name rows in
+    rw is (rightly (map g.S.AsStr.text c.args.words.now) c.in-Some.name.now (rows_of found) entered c.in_err-task.field-0.0 c.in_err-task.ensures.err)

@@ -16,7 +16,7 @@ returns-in-Followed g c =
 pub returns-in-Ok : goal.returns-in-Ok
 returns-in-Ok g c =
     let way = rw c.in-Read.is at c.way_of.ensures in
-    read_runs c.args.wanted.now.file.now (wish_of c.args.wanted.now.task) _ _ _ _ way c.in-Ok.text.items c.in-Ok.ensures
+    read_runs c.args.wanted.now.file.now (wish_of c.args.wanted.now.task) _ _ _ _ way c.in-Ok.text.items c.in-Ok.ensures.given
     (rw c.as_slice-text.ensures.value at c.tell_report.ensures)
 
 pub returns-in-Err-Memory : goal.returns-in-Err-Memory
