@@ -33,9 +33,13 @@ const ONE_CALL: MostCalls = MostCalls {
     of_a_taking: 1,
 };
 
-// So many calls are taken up, gone on with and end while a worker holds the pool's lock, for about a millisecond then. To
-// hand the lock over, with the state to another processor's cache, takes as long as some fifteen calls.
+// So many calls are taken up, gone on with and end while a worker holds the pool's lock, for about a millisecond then, in a
+// run with a journal.
 const CALLS_OF_A_TAKING: usize = 512;
+
+// The same without a journal, where no answer waits for a sync. To hand the lock over, with the state to another
+// processor's cache, takes as long as some 200 calls.
+const CALLS_WITHOUT_JOURNAL: usize = 8192;
 
 // So many calls of a worker wait for other transactions over a link that leaves wires on their way.
 const WAITING_CALLS: usize = 64;
@@ -331,7 +335,13 @@ fn work<J: RunSpec, K: Journal, R: Wait, L: Link, G: Gate>(
 
 // How many calls each of so many workers has on their way at a time: one where a call could wait for another's wire or
 // gate. Over a prompt link one worker, and each in a run with a journal, carries one call's wires after the other's.
-fn at_a_time<L: Link, G: Gate>(link: &L, gate: &G, has_journal: bool, workers: usize) -> MostCalls {
+fn at_a_time<L: Link, G: Gate>(
+    link: &L,
+    gate: &G,
+    has_journal: bool,
+    workers: usize,
+    calls: usize,
+) -> MostCalls {
     let window = link.window().max(1);
     let is_prompt = link.is_prompt();
     if !gate.is_prompt() || (!is_prompt && window == 1) {
@@ -344,7 +354,11 @@ fn at_a_time<L: Link, G: Gate>(link: &L, gate: &G, has_journal: bool, workers: u
             window
         },
         waiting: if is_prompt { 1 } else { WAITING_CALLS },
-        of_a_taking: CALLS_OF_A_TAKING,
+        of_a_taking: if has_journal {
+            CALLS_OF_A_TAKING
+        } else {
+            CALLS_WITHOUT_JOURNAL.min(calls.max(1))
+        },
     }
 }
 
@@ -366,7 +380,13 @@ pub(crate) fn work_all<
 ) -> usize
     requires { calls.now ≡ J.calls }
 {
-    let most = at_a_time(link, gate, pool.commit_lock.has_journal(), workers);
+    let most = at_a_time(
+        link,
+        gate,
+        pool.commit_lock.has_journal(),
+        workers,
+        calls.len(),
+    );
     thread::scope(
         thread::scope_env(),
         rt,

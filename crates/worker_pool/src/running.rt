@@ -209,13 +209,14 @@ fn run_named<
 /// until one ends, falls in doubt or is stuck, and tries again, unless all that stand in its way are
 /// in doubt or stuck. A state that is handed in with open transactions, which no call runs, may so make `run` wait for
 /// ever. Nothing is carried and no gate is told while the lock is held; where the gate only notes, it may note, and the
-/// link may perform at once what a call asks: of up to 512 calls, if both are prompt, before the lock is let go.
+/// link may perform at once what a call asks: of up to 8,192 calls (512 with a journal), if both are prompt, before the
+/// lock is let go.
 ///
 /// A worker has as many calls on their way as the link's window says, if the gate is prompt. Else it has one, so that
 /// none waits for another's gate: also one that only notes is told of answers. Over a prompt link the window is eight, but one
 /// for a single worker, which runs the calls one after the other, and in a run with a journal. Over another link it is
 /// one unless the link can leave wires on their way ([`Link::exchange`]). Then a worker goes on with a call as soon as
-/// something came back for it, with up to 512 under one taking of the lock, and sends nothing again that is on its way.
+/// something came back for it, with as many under one taking of the lock, and sends nothing again that is on its way.
 /// Up to 64 calls with a transaction in their way are laid aside for others, and tried again whenever something came
 /// back to their worker. It ends once all that is on its way came back or is lost. With a journal a call may wait until
 /// what others logged is kept.
