@@ -30,7 +30,8 @@ enum {
     SERVES_AGAIN,            /* a session that has ended begins again */
     BATCH_KEEPS_HALF,        /* SIGKILL behind a batch: all is done, and half of its numbers aren't kept */
     BATCH_DOES_LATER,        /* the updates of a batch are done behind the next batch: the next one on a record comes first */
-    BATCH_MARKS_FIRST        /* a batch raises the mark and forgets, and its numbers are compared with the mark of before it */
+    BATCH_MARKS_FIRST,       /* a batch raises the mark and forgets, and its numbers are compared with the mark of before it */
+    HEARS_OTHER_SESSION      /* a wire of another session raises the mark */
 };
 
 enum { RECORDS = 256, NUMBERS = 1 << 18, SESSIONS = 1024 };
@@ -231,6 +232,7 @@ mz_carried component_carry_many(component *c, const mz_wire *wires, size_t count
     pthread_mutex_lock(&c->lock);
     if (wires->session != served(&c->sessions) && !is_wrong(IGNORES_SESSION)) {
         carried = MZ_RETIRED;
+        if (is_wrong(HEARS_OTHER_SESSION) && wires->low_water > c->now.mark) c->now.mark = wires->low_water;
     } else if (wires->incarnation == c->incarnation || is_wrong(DOES_OTHER_INCARNATION)) {
         carried = count == 1 ? performed(c, wires, replies) : performed_all(c, wires, count, replies);
     } else {

@@ -437,13 +437,17 @@ static void befall(unsigned *seed) {
 
 /* ---- sessions, by main alone */
 
-/* A write that the former session's transaction component never sent, and the last one that it did. */
+/* The last write that the former session's transaction component sent, and two that it never did, one of them with a mark above the numbers
+ * of the session that is served, and in its incarnation. */
 static void former_comes(uint64_t former, const mz_wire *last) {
     mz_reply reply;
     mz_news news = {0, 0};
-    mz_wire wires[] = {*last, *last};
+    mz_wire wires[] = {*last, *last, *last};
     wires[1].number++;
-    for (int i = 0; i < 2; i++) {
+    wires[2].number += NUMBERS;
+    wires[2].low_water = wires[2].number - 1;
+    wires[2].incarnation = known;
+    for (int i = 0; i < 3; i++) {
         wires[i].session = former;
         carry(&wires[i], 1, &reply, &news);
     }
@@ -466,6 +470,8 @@ static void next_session(unsigned *seed) {
     session++;
     former_comes(former, &last);
     if (component_begin(tried, former, session)) broken("a session that has ended never comes back", NULL, NULL, NULL);
+    read_all(seed);
+    former_comes(former, &last);
     read_all(seed);
     killed(0);
     former_comes(former, &last);

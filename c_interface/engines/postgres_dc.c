@@ -280,9 +280,11 @@ static int are_needed(const mz_wire *w, size_t count) {
     return !count;
 }
 
+/* A late wire of a former session raises nothing: its mark is of other numbers. */
 static int one_sent(postgres_dc *dc, PGconn *c, const mz_wire *wire) {
     words w = {.count = 0};
-    if (wire->low_water > dc->raised + RAISE_BEHIND && raised(dc, c, "raise", wire->incarnation, wire->low_water))
+    if (wire->session == dc->session && wire->low_water > dc->raised + RAISE_BEHIND &&
+        raised(dc, c, "raise", wire->incarnation, wire->low_water))
         dc->raised = wire->low_water;
     put_number(&w, wire->session, 8);
     put_number(&w, wire->incarnation, 8);
