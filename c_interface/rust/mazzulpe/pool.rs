@@ -246,14 +246,16 @@ impl<D: Device> Shared<D> {
             None if is_mine && queue.in_use == 0 => Ok(()),
             None => Err(TXNS_OPEN),
         };
-        queue.draining = !is_mine || drained.is_ok();
+        if is_mine && drained.is_err() {
+            self.admits_again(&mut queue);
+        }
         drained
     }
 
-    fn admits_again(&self) {
-        let mut queue = self.queue();
+    /// Behind a checkpoint, whatever came of it.
+    fn admits_again(&self, queue: &mut Queue) {
         queue.draining = false;
-        self.wake_one(&mut queue);
+        self.wake_one(queue);
         self.drained.notify_all();
     }
 
@@ -376,7 +378,7 @@ impl<D: Device + Send + Sync + 'static> Pool<D> {
         if begun == Err(LOG_FAILED) {
             self.shared.fail(LOG_FAILED);
         }
-        self.shared.admits_again();
+        self.shared.admits_again(&mut self.shared.queue());
         begun
     }
 
