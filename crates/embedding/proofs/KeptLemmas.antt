@@ -1,6 +1,5 @@
 -- The request that is taken out is the one that was found.
 use Rattle.std.proofs.Common.{◌≡◌, ℕ, ◌<◌, List, Some, length, slice_index_or, refl, sym, subst, ◌∙◌}
-use Rattle.std.specs.Prelude.{slice_get}
 use Rattle.std.proofs.lemmas.Option.{slice_get_read}
 use Rattle.tc_core.specs.Core.{Asking}
 use Rattle.embedding.specs.Serving.{IsKeptAt, IsRequestOf}

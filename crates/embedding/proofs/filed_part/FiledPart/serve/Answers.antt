@@ -1,7 +1,7 @@
-use Rattle.std.proofs.Common.{ap, refl, sym, subst, rules}
+use Rattle.std.proofs.Common.{ap, refl}
 use Rattle.embedding.specs.declared.filed_part.FiledPart.{FiledPart}
 use Rattle.embedding.proofs.ByNumber.{same_gathered}
-use Rattle.embedding.proofs.FilingLemmas.{filed_as, served_by, same_file, same_rest}
+use Rattle.embedding.proofs.FilingLemmas.{filed_as, same_file, same_rest}
 use Rattle.embedding.proofs.filed_part.FiledPart.serve.Goals as goal
 
 pub returns-in-63 : goal.returns-in-63

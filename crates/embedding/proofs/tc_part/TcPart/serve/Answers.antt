@@ -1,4 +1,4 @@
-use Rattle.std.proofs.Common.{ℕ, length, ap, refl, subst, ◌∙◌}
+use Rattle.std.proofs.Common.{ℕ, refl, subst}
 use Rattle.tc_core.specs.Redo.{redo_behind}
 use Rattle.embedding.specs.Serving.{Redoes}
 use Rattle.embedding.specs.Telling.{TellsRedo}
