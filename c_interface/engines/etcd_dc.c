@@ -179,7 +179,7 @@ static void add_operation(writer *to, const mz_wire *w) {
     add(to, "{\"request_txn\":{\"compare\":[{\"key\":\"%s\",\"target\":\"CREATE\",\"result\":\"%s\",\"create_revision\":\"0\"}],\"success\":[",
         record, inserts ? "EQUAL" : "GREATER");
     if (w->op == MZ_DELETE) add(to, "{\"request_delete_range\":{\"key\":\"%s\",\"prev_kv\":true}}", record);
-    else add(to, "{\"request_put\":{\"key\":\"%s\",\"value\":\"%s\",\"prev_kv\":true}}", record, etcd_coded(value, w->value, MZ_VALUE));
+    else add(to, "{\"request_put\":{\"key\":\"%s\",\"value\":\"%s\"%s}}", record, etcd_coded(value, w->value, MZ_VALUE), inserts ? "" : ",\"prev_kv\":true");
     add(to, ",{\"request_put\":{\"key\":\"%s\",\"value\":\"%s\"}}],\"failure\":[{\"request_put\":{\"key\":\"%s\",\"value\":\"%s\"}}]}}", number,
         inserts ? "Mw==" : "NA==", number, inserts ? "NQ==" : "Ng==");
 }
