@@ -11,11 +11,13 @@ folder=$(mktemp -d)
 trap 'rm -rf "$folder"' EXIT
 chmod 711 "$folder"
 
-# bank WHO KILLS [CONTROL]: a run in a folder of its own; what it prints stands in `said`.
+# bank WHO KILLS [CONTROL]: a run in a folder of its own; what it prints stands in `said`. Where both are killed 64 calls are open.
 bank() {
     own="$folder/$1$3"
     mkdir "$own"
-    build/killed_"$name" build/bank.o "$own" 4 "$@" > "$folder/said" 2> "$folder/faults"
+    calls=4
+    test "$1" = both && calls=64
+    build/killed_"$name" build/bank.o "$own" $calls "$@" > "$folder/said" 2> "$folder/faults"
 }
 
 for who in client servers both; do
