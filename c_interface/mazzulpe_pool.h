@@ -112,6 +112,13 @@ static inline mz_code mz_pool_start(mz_pool *pool) {
     return MZ_OK;
 }
 
+/* Behind a checkpoint, whatever came of it; under the queue's lock. */
+static inline void mz_pool_admits_again(mz_pool *pool) {
+    pool->draining = 0;
+    mz_pool_wake_one(pool);
+    pthread_cond_broadcast(&pool->drained);
+}
+
 /* Nothing is admitted any more, and what is open has ended; not behind this time. */
 static inline mz_code mz_pool_drain(mz_pool *pool, uint64_t until) {
     pthread_mutex_lock(&pool->queue_lock);
@@ -120,18 +127,9 @@ static inline mz_code mz_pool_drain(mz_pool *pool, uint64_t until) {
     pool->draining = 1;
     while (is_mine && pool->in_use && pool->failed == MZ_OK && mz_pool_now() < until) mz_pool_wait(pool, &pool->drained, until);
     mz_code c = pool->failed != MZ_OK ? pool->failed : !is_mine || pool->in_use ? MZ_TXNS_OPEN : MZ_OK;
-    if (is_mine && c != MZ_OK) pool->draining = 0;
+    if (is_mine && c != MZ_OK) mz_pool_admits_again(pool);
     pthread_mutex_unlock(&pool->queue_lock);
     return c;
-}
-
-/* Behind it, whatever came of it. */
-static inline void mz_pool_admits_again(mz_pool *pool) {
-    pthread_mutex_lock(&pool->queue_lock);
-    pool->draining = 0;
-    mz_pool_wake_one(pool);
-    pthread_cond_broadcast(&pool->drained);
-    pthread_mutex_unlock(&pool->queue_lock);
 }
 
 /* What storage is told: the mark, of a log that has all that it stands for. */
@@ -217,7 +215,7 @@ static inline mz_code mz_pool_queue(mz_pool *pool, mz_pool_item *item) {
 
 /* Ends it: takes no further calls, and waits for those that are there, for so many milliseconds at most. What is open then stays open in
  * the log, for the next one to take up; its callers, and those who weren't admitted, are told MZ_NOT_OVER. Behind it tc and log are the
- * caller's again, to be closed. NULL is nothing. */
+ * caller's again, to be closed. No thread may use it any more. NULL is nothing. */
 static inline void mz_pool_close(mz_pool *pool, unsigned milliseconds) {
     if (!pool) return;
     uint64_t until = mz_pool_now() + (uint64_t)milliseconds * 1000;
@@ -227,6 +225,7 @@ static inline void mz_pool_close(mz_pool *pool, unsigned milliseconds) {
     pthread_mutex_unlock(&pool->queue_lock);
     mz_pool_fail(pool, MZ_NOT_OVER);
     for (size_t i = 0; i < pool->started; i++) pthread_join(pool->lanes[i]->thread, NULL);
+    if (pool->log && pool->failed == MZ_NOT_OVER && mz_log_write(pool->log, &until) == MZ_OK) (void)mz_pool_stays(pool, until);
     for (size_t i = 0; i < pool->lane_count; i++) {
         pthread_cond_destroy(&pool->lanes[i]->wanted);
         free(pool->lanes[i]);
@@ -347,7 +346,9 @@ static inline mz_code mz_pool_checkpoint(mz_pool *pool, unsigned milliseconds, m
     if (c != MZ_OK) return c;
     c = mz_pool_begin_again(pool, keep, context);
     if (c == MZ_LOG_FAILED) mz_pool_fail(pool, c);
+    pthread_mutex_lock(&pool->queue_lock);
     mz_pool_admits_again(pool);
+    pthread_mutex_unlock(&pool->queue_lock);
     return c;
 }
 

@@ -1,6 +1,6 @@
 #!/usr/bin/env python3
-"""Compares what is written twice by hand: rust/mazzulpe.rs has each function of mazzulpe.h and mazzulpe_object.h, and with the
-header the same codes, words of codes, numbers of calls and fields of the frame; crates/embedding has the codes, numbers and
+"""Compares what is written twice by hand: rust/mazzulpe.rs has each function of mazzulpe.h, mazzulpe_object.h and mazzulpe_pool.h, and
+with the header the same codes, words of codes, numbers of calls and fields of the frame; crates/embedding has the codes, numbers and
 fields too. Says each difference, with status 1.
 """
 import pathlib
@@ -8,7 +8,7 @@ import re
 import sys
 
 HERE = pathlib.Path(__file__).resolve().parent
-HEADERS = ("mazzulpe.h", "mazzulpe_object.h")
+HEADERS = ("mazzulpe.h", "mazzulpe_object.h", "mazzulpe_pool.h")
 EMBEDDING = HERE.parent / "crates/embedding/src"
 WIDTHS = {"uint8_t": "u8", "uint16_t": "u16", "uint32_t": "u32", "uint64_t": "u64"}
 
@@ -26,10 +26,11 @@ def public_functions(text):
 
 def in_rust(name):
     """The function of the wrapper for one of the header, None where the language has it."""
-    if name == "mz_little" or name.endswith("_free"):
+    if name in ("mz_little", "mz_pool_open_batched") or name.endswith("_free"):
         return None
-    other = {"mz_code_text": "Refusal::code_text", "mz_event_of": "Event::event_of"}
-    kind, word = re.match(r"mz_(?:(tc|dc|program)_)?(\w+)", name).groups()
+    other = {"mz_code_text": "Refusal::code_text", "mz_event_of": "Event::event_of", "mz_pool_lock": "Pool::look",
+             "mz_pool_unlock": "Pool::look"}
+    kind, word = re.match(r"mz_(?:(tc|dc|program|pool)_)?(\w+)", name).groups()
     return other.get(name) or f"{(kind or 'tc').capitalize()}::{word}"
 
 
@@ -37,7 +38,7 @@ def rust_functions(text):
     """The public functions, as Type::name."""
     kind = None
     for line in text.splitlines():
-        if found := re.match(r"impl (\w+) \{", line):
+        if found := re.match(r"impl(?:<.*?>)? (\w+)(?:<\w+>)? \{", line):
             kind = found[1]
         if found := re.match(r"    pub fn (\w+)", line):
             yield f"{kind}::{found[1]}"
@@ -89,7 +90,7 @@ def rust_frame(text):
 
 def differences():
     headers = {name: (HERE / name).read_text() for name in HEADERS}
-    rust = "\n".join(it.read_text() for it in [HERE / "rust/mazzulpe.rs", *sorted((HERE / "rust/mazzulpe").iterdir())])
+    rust = "\n".join(it.read_text() for it in [HERE / "rust/mazzulpe.rs", *sorted((HERE / "rust/mazzulpe").rglob("*.rs"))])
     ours = {name: (EMBEDDING / name).read_text() for name in ("call.rt", "codes.rt", "frame.rt")}
     header = headers["mazzulpe.h"]
     functions = [in_rust(name) for text in headers.values() for name in public_functions(text)]

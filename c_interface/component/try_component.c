@@ -126,8 +126,10 @@ static void look_at(const mz_wire *w, const mz_reply *reply) {
     pthread_mutex_unlock(&state);
     if (reply->number != w->number) broken("a reply has the number of its wire", w, reply, NULL);
     if (reply->incarnation != w->incarnation) broken("a wire of another incarnation isn't answered", w, reply, NULL);
-    if (reply->said == MZ_OLD && !is_told) broken("a number above the low-water mark isn't old: what was performed is forgotten too early", w, reply, NULL);
-    if (reply->said != MZ_OLD && is_seen && !is_same(reply, &first)) broken("a number is performed once, and answered alike ever after", w, reply, &first);
+    if (reply->said == MZ_OLD && !is_told)
+        broken("a number above the low-water mark isn't old: what was performed is forgotten too early", w, reply, NULL);
+    if (reply->said != MZ_OLD && is_seen && !is_same(reply, &first))
+        broken("a number is performed once, and answered alike ever after", w, reply, &first);
 }
 
 /* By either way, where it takes batches. */

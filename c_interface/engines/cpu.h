@@ -14,7 +14,8 @@ static inline double cpu_of(pid_t pid) {
     FILE *f = fopen(path, "r");
     const char *at = f && fgets(line, sizeof line, f) ? strrchr(line, ')') : NULL;
     if (f) fclose(f);
-    if (!at || sscanf(at + 2, "%*c %*d %*d %*d %*d %*d %*u %*u %*u %*u %*u %llu %llu %llu %llu", &own, &system, &children, &children_system) != 4) return 0;
+    static const char times[] = "%*c %*d %*d %*d %*d %*d %*u %*u %*u %*u %*u %llu %llu %llu %llu";
+    if (!at || sscanf(at + 2, times, &own, &system, &children, &children_system) != 4) return 0;
     return (double)(own + system + children + children_system) / (double)sysconf(_SC_CLK_TCK);
 }
 

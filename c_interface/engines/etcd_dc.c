@@ -125,6 +125,7 @@ static int is_known(etcd_dc *dc, connection *c, uint64_t known) {
     if (c->to.fd < 0) c->is_known = 0;
     for (int tries = 0; !c->is_known && tries < 3; tries++) {
         standing s;
+        dc->is_retired = 0;
         if (!is_read(c, &s)) return 0;
         dc->is_retired = s.is_there ? s.session != dc->session : !dc->session;
         if (dc->is_retired) return 0;
@@ -178,7 +179,7 @@ static void add_operation(writer *to, const mz_wire *w) {
     add(to, "{\"request_txn\":{\"compare\":[{\"key\":\"%s\",\"target\":\"CREATE\",\"result\":\"%s\",\"create_revision\":\"0\"}],\"success\":[",
         record, inserts ? "EQUAL" : "GREATER");
     if (w->op == MZ_DELETE) add(to, "{\"request_delete_range\":{\"key\":\"%s\",\"prev_kv\":true}}", record);
-    else add(to, "{\"request_put\":{\"key\":\"%s\",\"value\":\"%s\",\"prev_kv\":true}}", record, etcd_coded(value, w->value, MZ_VALUE));
+    else add(to, "{\"request_put\":{\"key\":\"%s\",\"value\":\"%s\"%s}}", record, etcd_coded(value, w->value, MZ_VALUE), inserts ? "" : ",\"prev_kv\":true");
     add(to, ",{\"request_put\":{\"key\":\"%s\",\"value\":\"%s\"}}],\"failure\":[{\"request_put\":{\"key\":\"%s\",\"value\":\"%s\"}}]}}", number,
         inserts ? "Mw==" : "NA==", number, inserts ? "NQ==" : "Ng==");
 }

@@ -27,7 +27,7 @@ int home_damage(void) {
     static const char from[] = "bank/c/", to[] = "bank/c0";
     char coded_from[ETCD_TEXT], coded_to[ETCD_TEXT], body[500];
     etcd_connection c = {.members = members, .fd = -1};
-    snprintf(body, sizeof body, "{\"key\":\"%s\",\"range_end\":\"%s\",\"limit\":\"1\",\"sort_order\":\"ASCEND\",\"sort_target\":\"KEY\",\"keys_only\":true}",
+    snprintf(body, sizeof body, "{\"key\":\"%s\",\"range_end\":\"%s\",\"limit\":\"1\",\"keys_only\":true}",
              etcd_coded(coded_from, from, sizeof from - 1), etcd_coded(coded_to, to, sizeof to - 1));
     int is = etcd_post(&c, "kv/range", body) == ETCD_DONE;
     const char *key = is ? etcd_field(etcd_whole(&c), "key") : NULL;

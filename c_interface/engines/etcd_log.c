@@ -83,9 +83,10 @@ static const char *ours_here(const etcd_log *log, char to[COMPARES]) {
     size_t length = strlen(ours(log, to));
     if (!IS_FENCED) return to;
     key(log, t, "end");
-    if (log->next) snprintf(to + length, COMPARES - length, ",{\"key\":\"%s\",\"target\":\"VALUE\",\"result\":\"EQUAL\",\"value\":\"%s\"}",
+    to[length++] = ',';
+    if (log->next) snprintf(to + length, COMPARES - length, "{\"key\":\"%s\",\"target\":\"VALUE\",\"result\":\"EQUAL\",\"value\":\"%s\"}",
                             t, coded_end(v, log->first, log->next));
-    else snprintf(to + length, COMPARES - length, ",{\"key\":\"%s\",\"target\":\"CREATE\",\"result\":\"EQUAL\",\"create_revision\":\"0\"}", t);
+    else snprintf(to + length, COMPARES - length, "{\"key\":\"%s\",\"target\":\"CREATE\",\"result\":\"EQUAL\",\"create_revision\":\"0\"}", t);
     return to;
 }
 
@@ -170,7 +171,7 @@ int etcd_log_beat(etcd_log *log) {
 
 /* ---- the device */
 
-/* The bytes with our epoch before them, in base64, behind the text that `body` has by now. */
+/* The bytes with our epoch before them, in base64, after the text that `body` has by now. */
 static size_t put_chunk(etcd_log *log, size_t length, const uint8_t *bytes, size_t count) {
     snprintf((char *)log->chunk, EPOCH + 1, "%016llx", (unsigned long long)log->epoch);
     memcpy(log->chunk + EPOCH, bytes, count);
@@ -178,7 +179,7 @@ static size_t put_chunk(etcd_log *log, size_t length, const uint8_t *bytes, size
     return length + strlen(log->body + length);
 }
 
-/* Chunk `number`, which nobody reads yet. Where it is the last of an append, the end moves behind it, and what the log had is deleted
+/* Chunk `number`, which nobody reads yet. Where it is the last of an append, the end moves over it, and what the log had is deleted
  * where these bytes take its place. */
 static int is_put(etcd_log *log, uint64_t number, const uint8_t *bytes, size_t count, int is_last, uint64_t first) {
     char compares[COMPARES], c[ETCD_TEXT], t[ETCD_TEXT], end[ETCD_TEXT], from[ETCD_TEXT], to[ETCD_TEXT];
@@ -194,7 +195,7 @@ static int is_put(etcd_log *log, uint64_t number, const uint8_t *bytes, size_t c
              key(log, t, "end"), c);
     if (!is_posted(&log->to, "kv/txn", log->body)) return 0;
     if (is_done(&log->to)) return 1;
-    /* a try whose reply was lost was done: the end is behind a chunk of ours */
+    /* a try whose reply was lost was done: the end is after a chunk of ours */
     return is_last && response_hex(&log->to, 0, 1) == number + 1 && response_hex(&log->to, 1, 0) == log->epoch;
 }
 
@@ -266,7 +267,7 @@ static mz_code read_head(etcd_log *log, uint64_t *session, uint64_t *revision) {
 
 typedef struct { uint8_t *bytes; size_t count, room; } gathered;
 
-/* The bytes of the value that begins here, in base64, behind the others. */
+/* The bytes of the value that begins here, in base64, after the others. */
 static mz_code gather(gathered *g, const char *value) {
     size_t length = strcspn(value, "\"") / 4 * 3 + EPOCH;
     if (g->count + length > g->room) {

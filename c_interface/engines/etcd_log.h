@@ -3,7 +3,7 @@
  *     etcd_log *home = etcd_log_open("10.0.0.1:2379,10.0.0.2:2379,10.0.0.3:2379", "bank", 400);
  *     etcd_log_await(home);                                       a standby waits here until whoever writes is silent
  *     mz_device device = etcd_log_device(home);
- *     mz_log_take_over(tc, &device, etcd_log_read, &log, NULL);   behind the procedures
+ *     mz_log_take_over(tc, &device, etcd_log_read, &log, NULL);   after the procedures are loaded
  *
  * From then on etcd_log_beat tells the standbys that this one lives. Each append is one etcd transaction, which compares the epoch
  * and the end of the log: it is done where both are as this one knows them, and refused for ever else. So whoever was superseded
@@ -16,7 +16,7 @@
  *   NAME/c/NUMBER    a chunk: the epoch in which it was written, 16 hex digits, and bytes of the log
  *
  * A chunk says in which epoch it was written, so a writer whose reply was lost knows its own. More bytes than one etcd transaction
- * takes go out as several chunks, and the last one moves the end over all. A log that begins anew takes the place of all chunks in one
+ * takes go out as several chunks, and the last one moves the end over all. A log that is cut takes the place of all chunks in one
  * transaction, and the history before it is compacted: give it a cluster that nothing else needs old revisions of.
  *
  * Without a majority an append waits for a minute, and then fails. So it does at once where etcd refuses, as above its quota

@@ -3,6 +3,7 @@
 #include "storage.h"
 #include "etcd_dc.h"
 #include "etcd_post.h"
+#include "etcd_storage.h"
 #include "processes.h"
 #include <stdarg.h>
 
@@ -29,12 +30,15 @@ static const char *text(char to[TEXT], const char *format, ...) {
 
 /* ---- the way to them */
 
+const char *etcd_members(int dc) {
+    static char members[DCS][TEXT];
+    return text(members[dc], "127.0.0.1:%d,127.0.0.1:%d,127.0.0.1:%d", port(dc, 0, 0), port(dc, 1, 0), port(dc, 2, 0));
+}
+
 int storage_open(const char *folder, uint64_t session) {
-    char members[TEXT];
     (void)folder;
     for (int d = 0; d < DCS; d++) {
-        text(members, "127.0.0.1:%d,127.0.0.1:%d,127.0.0.1:%d", port(d, 0, 0), port(d, 1, 0), port(d, 2, 0));
-        components[d] = etcd_dc_open(members, session);
+        components[d] = etcd_dc_open(etcd_members(d), session);
         if (!components[d]) return 0;
         storage_components[d] = etcd_dc_batched(components[d]);
     }
@@ -130,13 +134,9 @@ unsigned servers_lose(uint16_t dc) {
 
 /* A control: what was performed is forgotten again and again. */
 static void forget_for_ever(void) {
-    char members[DCS][TEXT];
     static etcd_connection to[DCS];
     prctl(PR_SET_PDEATHSIG, SIGKILL);
-    for (int d = 0; d < DCS; d++) {
-        text(members[d], "127.0.0.1:%d,127.0.0.1:%d", port(d, 0, 0), port(d, 1, 0));
-        to[d] = (etcd_connection){.members = members[d], .fd = -1};
-    }
+    for (int d = 0; d < DCS; d++) to[d] = (etcd_connection){.members = etcd_members(d), .fd = -1};
     for (;; usleep(1000))
         for (int d = 0; d < DCS; d++) (void)etcd_post(&to[d], "kv/deleterange", "{\"key\":\"cC8=\",\"range_end\":\"cDA=\"}");
 }

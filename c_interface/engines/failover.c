@@ -8,7 +8,7 @@
  *     m  its beats are lost, it goes on    e  SIGKILL of a member of the home with the leader
  *     q  no majority of the home for 1.5 s d  a data component is killed, each second time so that it loses what it may
  *
- * Each wire may be late, each sixteenth reply is lost, zombies send again (node.c), and the log begins anew in between. At the end all
+ * Each wire may be late, each sixteenth reply is lost, zombies send again (node.c), and the log is cut in between. At the end all
  * nodes are killed, one takes over, and has to find each transfer that was told, none twice, each balance as the log says, and the sum.
  * Status 1: that isn't so, or no call gets on.
  *
@@ -56,7 +56,7 @@ static void look(void) {
     }
 }
 
-/* Until this reign, or a later one, has told a transfer: 1; 0 after so many seconds, or where something is wrong. */
+/* Until this reign, or a later one, has told a transfer: 1; 0 after this many seconds, or where something is wrong. */
 static int has_told(uint64_t reign, uint64_t seconds) {
     for (uint64_t since = node_now(); !wrong && node_now() - since < seconds * SECOND; usleep(1000)) {
         uint64_t reigns = p.seen->reigns;
@@ -168,8 +168,8 @@ static void run(uint64_t faults, const char *kinds) {
     const char *at_end = checked();
     if (!wrong) wrong = at_end;
     const uint64_t *of = count.of;
-    printf("%llu faults (k %llu, s %llu, m %llu, e %llu, q %llu, d %llu), %llu reigns, %llu told, %llu checkpoints; %llu zombies, %llu replies to what "
-           "they sent again, %llu late wires; take-over: median %.0f ms, 90 %% %.0f ms: %s\n",
+    printf("%llu faults (k %llu, s %llu, m %llu, e %llu, q %llu, d %llu), %llu reigns, %llu told, %llu checkpoints; "
+           "%llu zombies, %llu replies to what they sent again, %llu late wires; take-over: median %.0f ms, 90 %% %.0f ms: %s\n",
            (unsigned long long)count.all, (unsigned long long)of['k'], (unsigned long long)of['s'], (unsigned long long)of['m'],
            (unsigned long long)of['e'], (unsigned long long)of['q'], (unsigned long long)of['d'], (unsigned long long)p.seen->reigns,
            (unsigned long long)told, (unsigned long long)p.seen->client.checkpoints, (unsigned long long)p.seen->zombies,
@@ -186,9 +186,11 @@ int main(int argc, char **argv) {
     p.seen = (shared *)shared_by_lives(sizeof *p.seen);
     p.silence = (unsigned)atoi(argv[5]);
     p.client = (plan){.object = argv[1], .folder = argv[2], .threads = strtoull(argv[3], NULL, 10), .transfers = UINT64_MAX,
-                      .between = strcmp(control, "marks_first") ? BETWEEN : OFTEN, .unwritten = !strcmp(control, "unwritten"), .marks_first = !strcmp(control, "marks_first"), .losing = 1, .synced = 1,
-                      .seen = &p.seen->client};
-    if (p.client.threads < 1 || p.client.threads > THREADS || !p.silence || strspn(argv[6], "ksmeqd") != strlen(argv[6])) return 2;
+                      .between = strcmp(control, "marks_first") ? BETWEEN : OFTEN, .unwritten = !strcmp(control, "unwritten"),
+                      .marks_first = !strcmp(control, "marks_first"), .losing = 1, .synced = 1, .seen = &p.seen->client};
+    int are_words = !*control || p.client.unwritten || p.client.marks_first;
+    int are_kinds = *argv[6] && strspn(argv[6], "ksmeqd") == strlen(argv[6]);
+    if (!are_words || !are_kinds || !p.silence || p.client.threads < 1 || p.client.threads > THREADS) return 2;
     if (!servers_begin(argv[2], NULL) || !home_begin(argv[2])) return 2;
     srand((unsigned)getpid());
     run(strtoull(argv[4], NULL, 10), argv[6]);

@@ -37,8 +37,8 @@ void postgres_dc_close(postgres_dc *dc);
 int postgres_dc_begin(postgres_dc *dc, uint64_t session, uint64_t former);
 
 /* MZ_REPLIED and the reply; MZ_RESTARTED and the news, where the wire is for another incarnation, and MZ_RETIRED where it is of
- * a session that isn't served: nothing is done; MZ_LOST where nobody answered or PostgreSQL refused, as with a full disk: send the wire again. What it refuses it
- * names on standard error once a minute, and rests. */
+ * a session that isn't served: nothing is done; MZ_LOST where nobody answered or PostgreSQL refused, as with a full disk: send the
+ * wire again. What it refuses it names on standard error once a minute, and rests. */
 mz_carried postgres_dc_perform(postgres_dc *dc, const mz_wire *wire, mz_reply *reply, mz_news *news);
 
 /* A batch (mazzulpe_batch.h), in one statement: what postgres_dc_perform answers, of all. MZ_REPLIED: replies[i] to wires[i]. */

@@ -32,7 +32,8 @@ static int answered(const char *sql) {
 }
 
 int home_damage(void) {
-    return answered("with gone as (delete from mz_log.chunk where number = (select min(number) from mz_log.chunk) returning 1) select count(*) from gone") == 1;
+    return answered("with gone as (delete from mz_log.chunk where number = (select min(number) from mz_log.chunk) returning 1)"
+                    " select count(*) from gone") == 1;
 }
 
 /* ---- its members */
@@ -63,11 +64,12 @@ static int is_made(int member) {
     }
     snprintf(from, sizeof from, "%s", words);
     *strstr(from, " dbname") = 0;
-    const char *copied[] = {postgres_program(name, sizeof name, "pg_basebackup"), "-D", members[member].folder, "-d", from, "-R", "-c", "fast", "--no-sync", NULL};
+    const char *copied[] = {postgres_program(name, sizeof name, "pg_basebackup"), "-D", members[member].folder, "-d", from, "-R",
+                            "-c", "fast", "--no-sync", NULL};
     return process_runs(copied, members[member].output, owner);
 }
 
-/* Until this says so many. */
+/* Until this says what is wanted. */
 static int comes_to(const char *sql, int wanted) {
     for (int waited = 0; waited < ANSWERS_WITHIN; waited += 20) {
         if (answered(sql) == wanted) return 1;

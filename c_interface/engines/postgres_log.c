@@ -28,8 +28,9 @@ static const char schema[] =
 /* $1: name, $2: epoch, $3: next, $4: bytes. */
 #ifdef UNFENCED /* a control: a home that compares nothing */
 #define OURS "update mz_log.home set next = $3::int8 + 1%s where name = $1::text and epoch >= 0 * $2::int8 returning 1"
-#define PUTS                                                                                                                            \
-    "insert into mz_log.chunk select $1::text, $3::int8, $2::int8, $4::bytea from ours on conflict (name, number) do update set bytes = excluded.bytes"
+#define PUTS \
+    "insert into mz_log.chunk select $1::text, $3::int8, $2::int8, $4::bytea from ours" \
+    " on conflict (name, number) do update set bytes = excluded.bytes"
 #else
 #define OURS "update mz_log.home set next = $3::int8 + 1%s where name = $1::text and epoch = $2::int8 and next = $3::int8 returning 1"
 #define PUTS "insert into mz_log.chunk select $1::text, $3::int8, $2::int8, $4::bytea from ours"
@@ -159,8 +160,8 @@ static int is_seen(postgres_log *log, uint64_t *epoch, uint64_t *beats) {
     given g = name_given(log);
     static const int binary[] = {1};
     if (!is_connected(log, &log->to, "set synchronous_commit = on")) return 0;
-    PGresult *r = PQexecParams(log->to, "select h.epoch, b.beats from mz_log.home h join mz_log.beat b using (name) where name = $1", g.count, NULL,
-                               g.at, g.length, binary, 1);
+    PGresult *r = PQexecParams(log->to, "select h.epoch, b.beats from mz_log.home h join mz_log.beat b using (name) where name = $1",
+                               g.count, NULL, g.at, g.length, binary, 1);
     int is = PQresultStatus(r) == PGRES_TUPLES_OK && PQntuples(r) == 1;
     if (is) *epoch = number_of(r, 0);
     if (is) *beats = number_of(r, 1);
@@ -191,7 +192,8 @@ static int is_taken(postgres_log *log, uint64_t seen) {
     give_number(&g, seen);
     give_number(&g, log->drawn);
     int rows = rows_of(log, "update mz_log.home set epoch = epoch + 1, writer = $3 where name = $1 and epoch = $2", &g, &is_again);
-    if (rows == 0 && is_again) rows = rows_of(log, "select 1 from mz_log.home where name = $1 and epoch = $2::int8 + 1 and writer = $3", &g, &is_again);
+    if (rows == 0 && is_again)
+        rows = rows_of(log, "select 1 from mz_log.home where name = $1 and epoch = $2::int8 + 1 and writer = $3", &g, &is_again);
     if (rows != 1) return 0;
     log->epoch = seen + 1;
     return is_confirmed(log);
@@ -296,7 +298,8 @@ static mz_code gather_page(postgres_log *log, gathered *all, uint64_t from, uint
     int is_again;
     give_number(&g, from);
     give_number(&g, until);
-    PGresult *r = answered(log, "select bytes from mz_log.chunk where name = $1 and number >= $2 and number < $3 order by number", &g, &is_again);
+    PGresult *r = answered(log, "select bytes from mz_log.chunk where name = $1 and number >= $2 and number < $3 order by number", &g,
+                           &is_again);
     mz_code c = !r ? MZ_LOG_FAILED : (uint64_t)PQntuples(r) == until - from ? MZ_OK : MZ_DAMAGED;
     for (int i = 0; c == MZ_OK && i < PQntuples(r); i++) c = gather(all, PQgetvalue(r, i, 0), (size_t)PQgetlength(r, i, 0));
     PQclear(r);

@@ -4,7 +4,7 @@
  *     postgres_log *home = postgres_log_open("host=a,b,c dbname=bank target_session_attrs=read-write", "bank", 400);
  *     postgres_log_await(home);                                        a standby waits here until whoever writes is silent
  *     mz_device device = postgres_log_device(home);
- *     mz_log_take_over(tc, &device, postgres_log_read, &log, NULL);    behind the procedures
+ *     mz_log_take_over(tc, &device, postgres_log_read, &log, NULL);    after the procedures are loaded
  *
  * From then on postgres_log_beat says that this one lives. An append is one transaction: an update of the row in mz_log.home where epoch and
  * next chunk are as this one knows them, and an insert of the chunk. Where no row is so, it is refused for ever: another has taken over,

@@ -81,19 +81,22 @@ static int is_answered(void *by, int place, answered *answer) {
     return 1;
 }
 
-static int is_done(int dc, wish wish, mz_wire wire) {
+/* Whether a wish was done; -1 where nobody answered. */
+static int done(int dc, wish wish, mz_wire wire) {
     static _Thread_local answered answer;
-    return is_answered(&servers[dc], sent(&servers[dc], wish, &wire, 1), &answer) && answer.done;
+    return is_answered(&servers[dc], sent(&servers[dc], wish, &wire, 1), &answer) ? answer.done : -1;
 }
 
 static int send_batch(void *to, const mz_wire *wires, size_t count) { return sent(to, PERFORM, wires, count); }
 
-/* Where nobody is served the session begins. */
+/* Where nobody is served the session begins; who doesn't answer that serves nobody yet, and refuses nothing. */
 static mz_carried receive_batch(void *by, int place, const mz_wire *wires, size_t count, mz_reply *replies, mz_news *news) {
     static _Thread_local answered answer;
     if (!is_answered(by, place, &answer)) return MZ_LOST;
-    int begins = answer.carried == MZ_RETIRED && wires->session == session && is_done(wires->record.dc, BEGIN, (mz_wire){.session = session});
-    if (begins && !is_answered(by, send_batch(by, wires, count), &answer)) return MZ_LOST;
+    if (answer.carried == MZ_RETIRED && wires->session == session) {
+        int begun = done(wires->record.dc, BEGIN, (mz_wire){.session = session});
+        if (begun < 0 || (begun && !is_answered(by, send_batch(by, wires, count), &answer))) return MZ_LOST;
+    }
     if (answer.carried == MZ_REPLIED) memcpy(replies, answer.replies, count * sizeof *replies);
     *news = answer.news;
     return answer.carried;
@@ -111,18 +114,18 @@ int storage_open(const char *folder, uint64_t wanted) {
 }
 
 int storage_begin(uint16_t dc, uint64_t wanted, uint64_t former) {
-    int done = is_done(dc, BEGIN, (mz_wire){.session = wanted, .number = former});
-    if (done) session = wanted;
-    return done;
+    int is_begun = done(dc, BEGIN, (mz_wire){.session = wanted, .number = former}) == 1;
+    if (is_begun) session = wanted;
+    return is_begun;
 }
 
 int storage_keep(uint16_t dc, uint64_t incarnation, uint64_t mark) {
-    return is_done(dc, KEEP, (mz_wire){.incarnation = incarnation, .low_water = mark});
+    return done(dc, KEEP, (mz_wire){.incarnation = incarnation, .low_water = mark}) == 1;
 }
 
 void storage_fill(uint16_t dc, int full) {
     servers[dc].is_full = full;
-    (void)is_done(dc, FILL, (mz_wire){.redo = full});
+    (void)done(dc, FILL, (mz_wire){.redo = full});
 }
 
 /* ---- a server */

@@ -1,4 +1,5 @@
-//! Safe Rust over `libmazzulpe.a`: each function of `mazzulpe.h` and `mazzulpe_object.h`, as they document them.
+//! Safe Rust over `libmazzulpe.a`: each function of `mazzulpe.h` and `mazzulpe_object.h`, as they document them; in [`log`] and
+//! [`pool`] those of `mazzulpe_log.h` and `mazzulpe_pool.h`.
 //! `mz_load` is [`Tc::load`], `mz_dc_perform` [`Dc::perform`], `mz_program_run` [`Program::run`]; a handle is closed
 //! where it is dropped. `same_as_header.py` compares functions, codes, the calls' numbers and the frame with the header.
 //!
@@ -7,6 +8,7 @@
 mod judged;
 pub mod log;
 mod object;
+pub mod pool;
 mod refusal;
 mod running;
 mod values;

@@ -1,5 +1,5 @@
 //! Calls by the modules that mz_skeleton makes: what they log is what calls by name and number log, with each argument in its
-//! place; and what their access slots hold by name is what they hold by number.
+//! place; and what their access slots hold by name is what they hold by number. The same of calls by a pool.
 #[path = "../build/bank.rs"]
 mod bank;
 #[allow(dead_code)]
@@ -7,10 +7,12 @@ mod mazzulpe;
 #[path = "../build/named.rs"]
 mod named;
 
+use mazzulpe::pool::{Ended, Options, Pool};
 use mazzulpe::{
-    Carried, DC_UNKNOWN, Dc, NAME_TAKEN, NO_PROCEDURE, NO_TXN, NOT_OVER, Next, NotAdmitted, Outcome, Ran, Record,
-    Refusal, Tc, Value, Wire,
+    Carried, DC_UNKNOWN, Dc, Event, NAME_TAKEN, NO_PROCEDURE, NO_TXN, NOT_OVER, Next, NotAdmitted, Outcome, Ran,
+    Record, Refusal, Tc, Value, Wire,
 };
+use std::sync::Mutex;
 
 /// What reads an access slot of a transaction.
 type Slot = fn(&mut Tc, u64) -> Result<Option<Value>, Refusal>;
@@ -82,6 +84,32 @@ fn in_the_way(tc: &mut Tc) -> Result<(), Refusal> {
     Ok(())
 }
 
+/// The calls by a pool: each argument and each slot in its place.
+fn by_pool(tc: Tc) -> Result<(), Refusal> {
+    let dcs = [(); 2].map(|()| Mutex::new(Dc::new(10, 100).expect("memory")));
+    let carry = move |wires: &[Wire]| {
+        let mut dc = dcs[usize::from(wires[0].op.record().dc)].lock().expect("nobody panics");
+        wires.iter().map(|wire| dc.perform(wire).map_or(Carried::Lost, Carried::Replied)).collect()
+    };
+    let pool: Pool = Pool::open(tc, None, 4, Options::default(), carry)?;
+    let first = |ended: Ended| ended.values.iter().map(|it| it.map_or(0, |value| value[0])).collect::<Vec<_>>();
+    assert_eq!(first(bank::deposit_here_call(&pool, 21, 100)?), [100]);
+    assert_eq!(first(bank::deposit_there_call(&pool, 22, 7)?), [7]);
+    assert_eq!(first(bank::move_call(&pool, 21, 22, 13)?), [87, 20]);
+    assert_eq!(first(named::many_call(&pool, 21, 22)?), [1, 2, 3, 5, 50, 6, 7]);
+    assert_eq!(first(named::mixed_call(&pool, 1, 2, 3, 4, 5, 6, 7, 8)?), [0, 0]);
+    let args = pool.look(|tc| (0..).map_while(|place| tc.log_at(place).ok()).filter_map(args_of).last());
+    assert_eq!(args, Some(vec![1, 2, 3, 4, 5, 6, 7, 8]));
+    Ok(())
+}
+
+fn args_of(event: Event) -> Option<Vec<u64>> {
+    match event {
+        Event::Admit { args, .. } => Some(args),
+        _ => None,
+    }
+}
+
 fn main() -> Result<(), Refusal> {
     assert_eq!((bank::DCS, named::DCS), (2, 2));
     let mut typed = Tc::new(bank::DCS)?;
@@ -106,6 +134,7 @@ fn main() -> Result<(), Refusal> {
     is_by_name(&mut typed, &mut by_name, admitted, "nothing", &[]);
     in_the_way(&mut typed)?;
     slots(&mut typed).expect("nothing in the way");
+    by_pool(typed)?;
     println!("typed calls in Rust: as calls by name, and slots by name as by number");
     Ok(())
 }

@@ -22,7 +22,7 @@ static const char *const rust_words[] = {
     "move", "mut", "override", "priv", "pub", "ref", "return", "self", "static", "struct", "super", "trait", "true", "try", "type",
     "typeof", "unsafe", "unsized", "use", "virtual", "where", "while", "yield", NULL};
 /* The name of a constant or of a variant is no new name where an argument stands; what reads a slot `blocked` would be as BLOCKED is. */
-static const char *const rust_own[] = {"tc", "blocked", "procedure", "DCS", "Err", "None", "Ok", "Some", NULL};
+static const char *const rust_own[] = {"tc", "pool", "blocked", "procedure", "DCS", "Err", "None", "Ok", "Some", NULL};
 
 static const language in_c = {c_words, c_own, "dcs"}, in_rust = {rust_words, rust_own, "DCS"};
 

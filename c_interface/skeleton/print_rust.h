@@ -8,7 +8,7 @@
 static void print_rust_head(const skeleton *of, const procedure *it, unsigned what) {
     printf("pub fn ");
     print_function_name(of, it, what);
-    printf("(tc: &mut Tc");
+    printf(what == POOLED ? "<D: Device + Send + Sync + 'static>(pool: &Pool<D>" : "(tc: &mut Tc");
     for (unsigned i = 0; i < it->is.args && what >= CALL; i++) printf(", %s: u64", it->arguments[i]);
 }
 
@@ -28,6 +28,14 @@ static void print_rust_calls(const skeleton *of, const procedure *it) {
     printf(") -> Result<bool, Refusal> {\n    let procedure = tc.find(\"%s\")?;\n    tc.blocked(procedure, &[", it->is.name);
     print_arguments(it);
     printf("])\n}\n");
+}
+
+static void print_rust_pooled(const skeleton *of, const procedure *it) {
+    printf("\n/// Makes a call of `%s` as [`Pool::call`] does, with what its access slots held, in order.\n", it->is.name);
+    print_rust_head(of, it, POOLED);
+    printf(") -> Result<Ended, Refusal> {\n    pool.call(\"%s\", &[", it->is.name);
+    print_arguments(it);
+    printf("], %u)\n}\n", (unsigned)it->is.count);
 }
 
 static void print_rust_results(const skeleton *of, const procedure *it) {
@@ -53,12 +61,14 @@ static void print_rust(const skeleton *it) {
            "//! it. The module `mazzulpe` of mazzulpe.rs stands beside it.\n"
            "#![allow(dead_code, unused_imports, non_snake_case, clippy::all)]\n"
            "#![cfg_attr(rustfmt, rustfmt_skip)]\n\n"
+           "use super::mazzulpe::log::Device;\nuse super::mazzulpe::pool::{Ended, Pool};\n"
            "use super::mazzulpe::{NotAdmitted, Refusal, Tc, Unloaded, Value};\n\n"
            "/// How many data components they speak of.\npub const DCS: u16 = %u;\n\n", it->name, MZ_RELEASE, it->dcs);
     print_rust_open(it);
     for (size_t i = 0; i < it->count; i++) {
         print_rust_calls(it, &it->procedures[i]);
         print_rust_results(it, &it->procedures[i]);
+        print_rust_pooled(it, &it->procedures[i]);
     }
 }
 

@@ -404,7 +404,8 @@ static void succession(void) {
     SEEN(called_next(&a, 0) && called_next(&a, 3));
     long checks = first.checks;
     SEEN(mz_log_check(a.log) == MZ_OK && first.checks == checks + 1);
-    SEEN(mz_find(a.tc, "deposit_here", &procedure) == MZ_OK && mz_admit(a.tc, procedure, (const uint64_t[]){1, 1}, 2, &txn, NULL, NULL) == MZ_OK);
+    SEEN(mz_find(a.tc, "deposit_here", &procedure) == MZ_OK);
+    SEEN(mz_admit(a.tc, procedure, (const uint64_t[]){1, 1}, 2, &txn, NULL, NULL) == MZ_OK);
     SEEN(mz_run(a.tc, txn, carry_and_keep, &a, TRIES, &receipt, &stopped) == MZ_OK && stopped == MZ_OVER);
     /* (the answer isn't in the log: the next one asks for it) */
     SEEN(taken_over(&b, &second, &found) == MZ_OK && mz_session(b.tc) == 5 && mz_open_count(b.tc) == 1);

@@ -297,6 +297,40 @@ static void is_silent(void) {
     closed(&b);
 }
 
+static int is_barred;
+
+static void *barred(void *context) {
+    bank *b = (bank *)context;
+    SEEN(mz_pool_checkpoint(b->pool, 50, keep, &b->s) == MZ_TXNS_OPEN);
+    __atomic_store_n(&is_barred, 1, __ATOMIC_SEQ_CST);
+    return NULL;
+}
+
+/* A checkpoint that comes to nothing: who came meanwhile is admitted then. */
+static void admits_again(void) {
+    static bank b;
+    static submitted first, next;
+    pthread_t thread;
+    int draining = 0;
+    opened(&b, 100, MANY);
+    hold(&b.s.of[0]);
+    submit(&b, &first, 1, "deposit_here", 1, 5);
+    until_within(&b.s.of[0]);
+    if (pthread_create(&thread, NULL, barred, &b)) exit(2);
+    while (!draining && !__atomic_load_n(&is_barred, __ATOMIC_SEQ_CST)) {
+        pthread_mutex_lock(&b.pool->queue_lock);
+        draining = b.pool->draining;
+        pthread_mutex_unlock(&b.pool->queue_lock);
+    }
+    submit(&b, &next, 0, "deposit_there", 1, 5);
+    until(&b.t, &b.t.committed, 1);
+    pthread_join(thread, NULL);
+    let_go(&b.s.of[0]);
+    until(&b.t, &b.t.committed, 2);
+    SEEN(b.t.in_order == 2);
+    closed(&b);
+}
+
 /* One that restarts with a wire on its way: all that it lost is redone. */
 static void restarts(void) {
     static bank b;
@@ -512,6 +546,7 @@ int main(void) {
     wait_in_order();
     nobody_starves();
     is_silent();
+    admits_again();
     restarts();
     has_forgotten();
     has_no_room();

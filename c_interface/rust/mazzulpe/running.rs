@@ -62,7 +62,7 @@ impl Tc {
     }
 
     /// Kept in mind as a reply that says Old.
-    fn retired(&mut self, wire: &Wire) -> Refusal {
+    pub(super) fn retired(&mut self, wire: &Wire) -> Refusal {
         let reply = Reply { number: wire.number, incarnation: wire.incarnation, said: Said::Old };
         self.handle.refused_as(wire.op.record().dc, &reply)
     }
