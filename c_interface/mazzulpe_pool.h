@@ -37,7 +37,7 @@ extern "C" {
 
 /* ---- inside: how it begins and ends */
 
-/* Behind a call that was open when the pool was opened. */
+/* After a call that was open when the pool was opened. */
 static inline void mz_pool_back(void *context, mz_code code, const mz_receipt *receipt) {
     mz_pool *pool = (mz_pool *)context;
     (void)receipt;
@@ -112,14 +112,14 @@ static inline mz_code mz_pool_start(mz_pool *pool) {
     return MZ_OK;
 }
 
-/* Behind a checkpoint, whatever came of it; under the queue's lock. */
+/* After a checkpoint, whatever came of it; under the queue's lock. */
 static inline void mz_pool_admits_again(mz_pool *pool) {
     pool->draining = 0;
     mz_pool_wake_one(pool);
     pthread_cond_broadcast(&pool->drained);
 }
 
-/* Nothing is admitted any more, and what is open has ended; not behind this time. */
+/* Nothing is admitted any more, and what is open has ended; not later than this. */
 static inline mz_code mz_pool_drain(mz_pool *pool, uint64_t until) {
     pthread_mutex_lock(&pool->queue_lock);
     while (pool->draining && pool->failed == MZ_OK && mz_pool_now() < until) mz_pool_wait(pool, &pool->drained, until);
@@ -132,7 +132,7 @@ static inline mz_code mz_pool_drain(mz_pool *pool, uint64_t until) {
     return c;
 }
 
-/* What storage is told: the mark, of a log that has all that it stands for. */
+/* What storage is told: the mark, of a log that has all that it counts. */
 static inline mz_code mz_pool_mark(mz_pool *pool, uint64_t *mark) {
     uint64_t until = 0;
     mz_code c = MZ_OK;
@@ -149,7 +149,7 @@ static inline mz_code mz_pool_mark(mz_pool *pool, uint64_t *mark) {
     return c == MZ_OK ? mz_pool_stays(pool, until) : c;
 }
 
-/* Behind mz_pool_drain. */
+/* After mz_pool_drain. */
 static inline mz_code mz_pool_begin_again(mz_pool *pool, mz_pool_keep *keep, void *context) {
     uint64_t mark = 0, incarnation = 0;
     mz_code c = mz_pool_mark(pool, &mark);
@@ -213,8 +213,8 @@ static inline mz_code mz_pool_queue(mz_pool *pool, mz_pool_item *item) {
 
 /* ---- a pool */
 
-/* Ends it: takes no further calls, and waits for those that are there, for so many milliseconds at most. What is open then stays open in
- * the log, for the next one to take up; its callers, and those who weren't admitted, are told MZ_NOT_OVER. Behind it tc and log are the
+/* Ends it: takes no further calls, and waits for those that are there, for this many milliseconds at most. What is open then stays open in
+ * the log, for the next one to take up; its callers, and those who weren't admitted, are told MZ_NOT_OVER. After it tc and log are the
  * caller's again, to be closed. No thread may use it any more. NULL is nothing. */
 static inline void mz_pool_close(mz_pool *pool, unsigned milliseconds) {
     if (!pool) return;
@@ -239,7 +239,7 @@ static inline void mz_pool_close(mz_pool *pool, unsigned milliseconds) {
     free(pool);
 }
 
-/* Opens a pool over a transaction component behind its procedures, and behind mz_log_open; log may be NULL: then nothing outlives this
+/* Opens a pool over a transaction component after its procedures are loaded, and after mz_log_open; log may be NULL: then nothing outlives this
  * process. At most calls_at_once calls are open together, but for those that were open before. `carry` carries wires of one data component
  * a call, and is called by several threads at once, for each data component by one. options may be NULL. MZ_NO_DC; MZ_MEMORY: also
  * where there are no threads; what an open call was refused by. */
@@ -338,7 +338,7 @@ static inline mz_code mz_pool_call(mz_pool *pool, const char *procedure, const u
 
 /* Has the log begin again, so that it doesn't grow for ever: admits nothing, waits until what is open has ended, has each data component
  * keep the low-water mark, and begins the log. Not by a function that the pool calls; one is made at a time. MZ_TXNS_OPEN: what was open
- * didn't end within so many milliseconds, or is stuck; MZ_ONE_DOWN; MZ_BEHIND: `keep` didn't keep it; as mz_log_checkpoint. The log is as it
+ * didn't end within this many milliseconds, or is stuck; MZ_ONE_DOWN; MZ_BEHIND: `keep` didn't keep it; as mz_log_checkpoint. The log is as it
  * was then, and calls go on. What ended the pool. */
 static inline mz_code mz_pool_checkpoint(mz_pool *pool, unsigned milliseconds, mz_pool_keep *keep, void *context) {
     if (!pool || !keep) return MZ_BAD_ARGUMENT;

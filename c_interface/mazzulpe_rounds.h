@@ -61,7 +61,7 @@ struct mz_pool_item {
     int is_found, is_fresh; /* its procedure's number is known; its wire is of now, and mz_resend isn't needed */
     int undoing;
     unsigned tries, refusals; /* busy; undos that found no room */
-    uint64_t due;             /* behind such an undo */
+    uint64_t due;             /* after such an undo */
     mz_record busy_record;
     mz_pool_list waiters; /* for its end */
     mz_code code;
@@ -232,7 +232,7 @@ static inline int mz_pool_is_queued(const mz_pool *pool) {
     return pool->queues[MZ_POOL_URGENT].first || pool->queues[MZ_POOL_READY].first || pool->queues[MZ_POOL_NEW].first;
 }
 
-/* The same of those that this thread ended, whose places are free behind it. */
+/* The same of those that this thread ended, whose places are free then. */
 static inline void mz_pool_tell_ended(mz_pool_lane *lane, mz_code failed) {
     mz_pool *pool = lane->pool;
     size_t count = lane->ended.count;
@@ -326,7 +326,7 @@ static inline mz_code mz_pool_advance(mz_pool_lane *lane, mz_pool_item *item) {
     }
 }
 
-/* Behind its answer. An undo that found no room has few numbers left, and rests longer each time. */
+/* After its answer. An undo that found no room has few numbers left, and rests longer each time. */
 static inline mz_code mz_pool_goes_on(mz_pool_lane *lane, mz_pool_item *item, mz_said said) {
     if (!item->wire.undoes || said != MZ_NO_ROOM) return mz_pool_advance(lane, item);
     item->undoing = 0;

@@ -163,7 +163,7 @@ static void one_by_one(void) {
 static void go_together(void) {
     static bank b;
     static submitted calls[MANY];
-    mz_log_counts before, behind;
+    mz_log_counts before, after;
     component *c = &b.s.of[0];
     opened(&b, 100, MANY);
     b.s.is_alone = 1;
@@ -174,9 +174,9 @@ static void go_together(void) {
     let_go(c);
     until(&b.t, &b.t.told, MANY);
     mz_pool_lock(b.pool);
-    SEEN(mz_log_count(b.log, &behind) == MZ_OK);
+    SEEN(mz_log_count(b.log, &after) == MZ_OK);
     mz_pool_unlock(b.pool);
-    SEEN(b.t.committed == MANY && c->batches <= 4 && c->largest >= MANY / 2 && behind.syncs - before.syncs <= 5);
+    SEEN(b.t.committed == MANY && c->batches <= 4 && c->largest >= MANY / 2 && after.syncs - before.syncs <= 5);
     closed(&b);
     opened(&b, 100, 4);
     submits(&b, calls, MANY, "deposit_here", 0, 1);
@@ -372,7 +372,7 @@ static void has_forgotten(void) {
     storage_free(&b.s);
 }
 
-/* One that is full, and undos that find no room: they are made again, and are stuck behind the fourth. */
+/* One that is full, and undos that find no room: they are made again, and are stuck after the fourth. */
 static void has_no_room(void) {
     static bank b;
     mz_receipt receipt;

@@ -14,8 +14,8 @@ typedef struct {
     pthread_cond_t moved;     /* held, within or batches has changed */
     mz_dc *dc;
     mz_news news;
-    int held, passes, within; /* whoever carries waits; but so many batches; and does so now */
-    int silent, full, losing; /* so many batches aren't answered; so many undos find no room; replies are lost, or others' */
+    int held, passes, within; /* whoever carries waits; but this many batches; and does so now */
+    int silent, full, losing; /* this many batches aren't answered; this many undos find no room; replies are lost, or others' */
     uint64_t restarts_each;   /* it restarts before each batch of that number; 0: it doesn't */
     mz_said said;             /* in the place of what it says, where it isn't 0 */
     mz_carried instead;       /* the same of what became of each wire */
@@ -43,7 +43,7 @@ static inline void storage_free(storage *s) {
     for (int d = 0; d < DCS; d++) mz_dc_free(s->of[d].dc);
 }
 
-/* One of so many. */
+/* One of this many. */
 static inline int is_drawn(component *c, unsigned of) {
     c->drawn = c->drawn * 1103515245u + 12345u;
     return (c->drawn >> 16) % of == 0;
@@ -58,7 +58,7 @@ static inline void comes_late(component *c) {
     c->late++;
 }
 
-/* Loses what came behind its checkpoint. */
+/* Loses what came after its checkpoint. */
 static inline void component_restarts(component *c) {
     if (mz_dc_restart(c->dc, &c->news) != MZ_OK) exit(2);
     c->restarts++;

@@ -2,7 +2,7 @@
 //! it.
 //!
 //! ```text
-//! let pool = Pool::open(tc, Some(log), 64, Options::default(), |wires| ..)?; // behind Log::open
+//! let pool = Pool::open(tc, Some(log), 64, Options::default(), |wires| ..)?; // after Log::open
 //! pool.come_back()?;
 //! let ended = pool.call("move", &[1, 2, 30], 2)?;                            // from any thread
 //! pool.checkpoint(Duration::from_secs(60), |dc, incarnation, mark| ..)?;
@@ -54,7 +54,7 @@ impl Default for Options {
 /// What an operator watches of it.
 #[derive(Clone, Copy, Debug, Default, PartialEq, Eq)]
 pub struct PoolCounts {
-    /// Now, as the two after it: admitted; not yet; behind another's end.
+    /// Now, as the two after it: admitted; not yet; for another's end.
     pub open: u64,
     pub queued: u64,
     pub waiting: u64,
@@ -112,7 +112,7 @@ const URGENT: usize = 0;
 const READY: usize = 1;
 const NEW: usize = 2;
 
-/// Under its own lock, which is taken behind the state's.
+/// Under its own lock, which is taken after the state's.
 #[derive(Default)]
 struct Queue {
     queues: [VecDeque<Call>; 3],
@@ -179,7 +179,7 @@ impl<D: Device> Shared<D> {
         }
     }
 
-    /// Waits behind the queue's lock, until this time at most.
+    /// Waits under the queue's lock, until this time at most.
     fn wait<'a>(&self, queue: MutexGuard<'a, Queue>, until: Instant) -> MutexGuard<'a, Queue> {
         let left = until.saturating_duration_since(Instant::now());
         self.drained.wait_timeout(queue, left).expect("nobody panics under it").0
@@ -230,7 +230,7 @@ impl<D: Device> Shared<D> {
         Ok(())
     }
 
-    /// Nothing is admitted any more, and what is open has ended; not behind this time.
+    /// Nothing is admitted any more, and what is open has ended; not later than this.
     fn drain(&self, until: Instant) -> Result<(), Refusal> {
         let mut queue = self.queue();
         while queue.draining && queue.failed.is_none() && Instant::now() < until {
@@ -252,14 +252,14 @@ impl<D: Device> Shared<D> {
         drained
     }
 
-    /// Behind a checkpoint, whatever came of it.
+    /// After a checkpoint, whatever came of it.
     fn admits_again(&self, queue: &mut Queue) {
         queue.draining = false;
         self.wake_one(queue);
         self.drained.notify_all();
     }
 
-    /// What storage is told: the mark, of a log that has all that it stands for.
+    /// What storage is told: the mark, of a log that has all that it counts.
     fn mark(&self) -> Result<u64, Refusal> {
         let mut state = self.state();
         let (mark, lanes) = (state.tc.low_water(), self.wanted.len());
@@ -351,7 +351,7 @@ impl<D: Device + Send + Sync + 'static> Pool<D> {
         }
     }
 
-    /// Makes a call and waits for its end, however long its data components are away; `values`: of so many access slots it says what
+    /// Makes a call and waits for its end, however long its data components are away; `values`: of this many access slots it says what
     /// they held. Never from a function that the pool calls.
     pub fn call(&self, procedure: &str, args: &[u64], values: usize) -> Result<Ended, Refusal> {
         let (to, from) = sync_channel(1);

@@ -37,7 +37,7 @@ pub(super) struct State {
     pub(super) tc: Tc,
     pub(super) failed: Option<Refusal>,
     pub(super) lanes: Vec<Lane>,
-    /// Behind each open call: who waits for its end.
+    /// Of each open call: who waits for its end.
     pub(super) waiters: HashMap<u64, VecDeque<Call>>,
     /// In this pass of admissions: which record was busy, and by whom.
     pub(super) busy: Option<(Record, u64)>,
@@ -127,7 +127,7 @@ impl State {
         refused.map_or(Ok(()), Err)
     }
 
-    /// Behind its answer. An undo that found no room has few numbers left, and rests longer each time.
+    /// After its answer. An undo that found no room has few numbers left, and rests longer each time.
     fn goes_on(
         &mut self,
         lane: u16,
