@@ -12,7 +12,8 @@
  *
  * A ROUND is of one data component: all calls whose turn it is are asked, the log is written and synced once, those that have
  * ended are told, and the wires of all others go there together. Each data component has a thread of its own, so that one that is
- * away holds up nobody but its own calls. How many go together follows the load; nobody polls, and an idle pool sleeps.
+ * away holds up nobody but its own calls. How many go together follows the load; nobody polls, and an idle pool sleeps. Where
+ * mz_pool_call finds a data component idle its own thread carries, as long as no other call wants to go there.
  *
  * THE POOL OWNS the transaction component and the log from mz_pool_open to mz_pool_close: make no call on them but between
  * mz_pool_lock and mz_pool_unlock, and there only looks.
@@ -99,6 +100,7 @@ static inline mz_code mz_pool_furnish(mz_pool *pool) {
         }
         lane->pool = pool;
         lane->dc = (uint16_t)pool->lane_count;
+        lane->heard = MZ_NO_PLACE;
         pool->lanes[pool->lane_count] = lane;
     }
     return MZ_OK;
@@ -199,12 +201,23 @@ static inline mz_code mz_pool_fill(mz_pool_item *item, const char *procedure, co
     return MZ_OK;
 }
 
-static inline mz_code mz_pool_queue(mz_pool *pool, mz_pool_item *item) {
+/* Whether a call that comes now is admitted by its caller's thread: there is a place, none comes first, and a data component may be
+ * idle; under the queue's lock. */
+static inline int mz_pool_may_enter(const mz_pool *pool) {
+    return !pool->draining && pool->in_use < pool->calls_at_once && pool->in_use < pool->lane_count && !mz_pool_is_queued(pool);
+}
+
+/* Has it queued; but where its caller's thread may make its rounds, which *by_caller then says. */
+static inline mz_code mz_pool_queue(mz_pool *pool, mz_pool_item *item, int *by_caller) {
     pthread_mutex_lock(&pool->queue_lock);
     mz_code c = pool->failed != MZ_OK ? pool->failed : pool->closing ? MZ_NOT_OVER : MZ_OK;
-    if (c == MZ_OK) {
+    pool->calls += c == MZ_OK;
+    if (by_caller) *by_caller = item->by_caller = c == MZ_OK && mz_pool_may_enter(pool);
+    if (item->by_caller) {
+        pool->in_use++;
+        pool->callers++;
+    } else if (c == MZ_OK) {
         mz_pool_put(&pool->queues[MZ_POOL_NEW], item);
-        pool->calls++;
         mz_pool_wake_one(pool);
     }
     pthread_mutex_unlock(&pool->queue_lock);
@@ -224,6 +237,9 @@ static inline void mz_pool_close(mz_pool *pool, unsigned milliseconds) {
     while (pool->calls && pool->failed == MZ_OK && mz_pool_now() < until) mz_pool_wait(pool, &pool->drained, until);
     pthread_mutex_unlock(&pool->queue_lock);
     mz_pool_fail(pool, MZ_NOT_OVER);
+    pthread_mutex_lock(&pool->queue_lock);
+    while (pool->callers) mz_pool_wait(pool, &pool->drained, 0);
+    pthread_mutex_unlock(&pool->queue_lock);
     for (size_t i = 0; i < pool->started; i++) pthread_join(pool->lanes[i]->thread, NULL);
     if (pool->log && pool->failed == MZ_NOT_OVER && mz_log_write(pool->log, &until) == MZ_OK) (void)mz_pool_stays(pool, until);
     for (size_t i = 0; i < pool->lane_count; i++) {
@@ -241,7 +257,7 @@ static inline void mz_pool_close(mz_pool *pool, unsigned milliseconds) {
 
 /* Opens a pool over a transaction component after its procedures are loaded, and after mz_log_open; log may be NULL: then nothing outlives this
  * process. At most calls_at_once calls are open together, but for those that were open before. `carry` carries wires of one data component
- * a call, and is called by several threads at once, for each data component by one. options may be NULL. MZ_NO_DC; MZ_MEMORY: also
+ * a call, and is called by several threads at once, for each data component by one at a time. options may be NULL. MZ_NO_DC; MZ_MEMORY: also
  * where there are no threads; what an open call was refused by. */
 static inline mz_code mz_pool_open(mz_tc *tc, mz_log *log, mz_carry_many *carry, void *context, size_t calls_at_once,
                                    const mz_pool_options *options, mz_pool **pool) {
@@ -267,8 +283,8 @@ static inline mz_code mz_pool_open(mz_tc *tc, mz_log *log, mz_carry_many *carry,
     return c;
 }
 
-/* The same over data components from 0 on that take batches (mazzulpe_batch.h), each used by one thread; they have to be there until the
- * pool is closed. */
+/* The same over data components from 0 on that take batches (mazzulpe_batch.h), each used by one thread at a time; they have to be there
+ * until the pool is closed. */
 static inline mz_code mz_pool_open_batched(mz_tc *tc, mz_log *log, const mz_batched *components, uint16_t count, size_t calls_at_once,
                                            const mz_pool_options *options, mz_pool **pool) {
     size_t dcs = tc && components ? mz_pool_dcs(tc) : 0;
@@ -307,14 +323,15 @@ static inline mz_code mz_pool_submit(mz_pool *pool, const char *procedure, const
     if (!item) return MZ_MEMORY;
     mz_code c = mz_pool_fill(item, procedure, args, count, values, value_count, told, context);
     item->is_own = 1;
-    if (c == MZ_OK) c = mz_pool_queue(pool, item);
+    if (c == MZ_OK) c = mz_pool_queue(pool, item, NULL);
     if (c != MZ_OK) free(item);
     return c;
 }
 
 /* Makes a call and waits for its end, however long its data components are away. MZ_OK: it ended as *receipt says, which the log has
  * for good, and values are as at mz_pool_submit. As mz_find and mz_admit; MZ_BUSY: a call that is stuck holds a lock; MZ_NOT_OVER: it is
- * stuck itself, or the pool was closed; what ended the pool. Never from a function that the pool calls. */
+ * stuck itself, or the pool was closed; what ended the pool. Never from a function that the pool calls, nor under a lock that `carry`
+ * takes. */
 static inline mz_code mz_pool_call(mz_pool *pool, const char *procedure, const uint64_t *args, size_t count, mz_slot_value *values,
                                    size_t value_count, mz_receipt *receipt) {
     mz_pool_item item;
@@ -325,7 +342,9 @@ static inline mz_code mz_pool_call(mz_pool *pool, const char *procedure, const u
     if (c != MZ_OK) return c;
     if (pthread_mutex_init(&caller.lock, NULL) || pthread_cond_init(&caller.over, NULL)) return MZ_MEMORY;
     caller.is_over = 0;
-    c = mz_pool_queue(pool, &item);
+    int by_caller;
+    c = mz_pool_queue(pool, &item, &by_caller);
+    if (by_caller) mz_pool_own_rounds(pool, &item);
     pthread_mutex_lock(&caller.lock);
     while (c == MZ_OK && !caller.is_over) pthread_cond_wait(&caller.over, &caller.lock);
     pthread_mutex_unlock(&caller.lock);

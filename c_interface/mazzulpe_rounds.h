@@ -56,6 +56,7 @@ struct mz_pool_item {
     mz_pool_told *told;
     void *context;
     int is_own;             /* the pool frees it */
+    int by_caller, is_over; /* its caller's thread makes its rounds; it has ended by them */
     uint64_t txn;           /* 0: it isn't admitted */
     mz_wire wire;
     int is_found, is_fresh; /* its procedure's number is known; its wire is of now, and mz_resend isn't needed */
@@ -74,12 +75,12 @@ typedef struct {
     uint16_t dc;
     pthread_t thread;
     pthread_cond_t wanted;
-    int is_idle, is_wanted;                /* under the queue's lock */
+    int is_idle, is_wanted, is_taken;      /* under the queue's lock; taken: by a caller's thread, and this one waits */
     mz_pool_list waiting, set_aside;       /* for their wires to be carried; for an undo to be made again */
     mz_pool_list ended;                    /* by this thread, to be told */
     int is_due;                            /* it has got work by another's thread */
     uint64_t rest, until;                  /* of silence, in microseconds; when it is over */
-    mz_code trouble, news_code;            /* as `heard` was told; what it is now */
+    mz_code trouble, news_code, heard;     /* as `heard` was told; what it is now; what is to be told: MZ_NO_PLACE is nothing */
     int redoes;
     size_t count;
     mz_pool_item *items[MZ_BATCH];
@@ -116,8 +117,10 @@ struct mz_pool {
     mz_pool_list queues[MZ_POOL_QUEUES];
     size_t calls_at_once, in_use, calls; /* admitted and not told; submitted and not told */
     size_t were_open, coming_back, came_back;
+    size_t callers; /* whose threads make rounds */
     int draining, closing;
     mz_code failed; /* under both locks; either is enough to read it */
+    mz_code broken; /* under `lock`: what a caller's thread met, for one of the pool's to end it by */
 };
 
 static inline uint64_t mz_pool_now(void) {
@@ -166,7 +169,7 @@ static inline void mz_pool_opened(mz_pool *pool, mz_pool_item *item) {
 
 static inline void mz_pool_wake(mz_pool_lane *lane) {
     lane->is_wanted = 1;
-    pthread_cond_signal(&lane->wanted);
+    if (!lane->is_taken) pthread_cond_signal(&lane->wanted);
 }
 
 /* There is something to be admitted: if there are places, an idle thread looks, or each one before it sleeps. */
@@ -182,9 +185,8 @@ static inline void mz_pool_wake_one(mz_pool *pool) {
     for (size_t i = 0; i < pool->lane_count; i++) pool->lanes[i]->is_wanted = 1;
 }
 
-/* Those that got wires from this thread. */
-static inline void mz_pool_wake_due(mz_pool_lane *mine) {
-    mz_pool *pool = mine->pool;
+/* Those that got wires from this thread, but for the one that it runs. */
+static inline void mz_pool_wake_due(mz_pool *pool, const mz_pool_lane *mine) {
     pthread_mutex_lock(&pool->queue_lock);
     for (size_t i = 0; i < pool->lane_count; i++) {
         if (pool->lanes[i]->is_due && pool->lanes[i] != mine) mz_pool_wake(pool->lanes[i]);
@@ -212,7 +214,8 @@ static inline void mz_pool_sleep(mz_pool_lane *lane, uint64_t until) {
     mz_pool *pool = lane->pool;
     pthread_mutex_lock(&pool->queue_lock);
     lane->is_idle = 1;
-    while (!lane->is_wanted && (!until || mz_pool_now() < until)) mz_pool_wait(pool, &lane->wanted, until);
+    while (lane->is_taken || (!lane->is_wanted && (!until || mz_pool_now() < until)))
+        mz_pool_wait(pool, &lane->wanted, lane->is_taken ? 0 : until);
     lane->is_idle = lane->is_wanted = 0;
     pthread_mutex_unlock(&pool->queue_lock);
 }
@@ -232,16 +235,22 @@ static inline int mz_pool_is_queued(const mz_pool *pool) {
     return pool->queues[MZ_POOL_URGENT].first || pool->queues[MZ_POOL_READY].first || pool->queues[MZ_POOL_NEW].first;
 }
 
-/* The same of those that this thread ended, whose places are free then. */
+/* Places of calls that were told, under the queue's lock. */
+static inline void mz_pool_give_places(mz_pool *pool, size_t count) {
+    pool->in_use -= count;
+    pool->calls -= count;
+    if ((pool->draining && !pool->in_use) || (pool->closing && !pool->calls)) pthread_cond_broadcast(&pool->drained);
+}
+
+/* Tells those that this thread ended, whose places are free then: it looks itself who wants them, if it has nothing to carry. */
 static inline void mz_pool_tell_ended(mz_pool_lane *lane, mz_code failed) {
     mz_pool *pool = lane->pool;
     size_t count = lane->ended.count;
     mz_pool_tell(&lane->ended, failed);
     pthread_mutex_lock(&pool->queue_lock);
-    pool->in_use -= count;
-    pool->calls -= count;
-    if (mz_pool_is_queued(pool)) mz_pool_wake_one(pool);
-    if ((pool->draining && !pool->in_use) || (pool->closing && !pool->calls)) pthread_cond_broadcast(&pool->drained);
+    mz_pool_give_places(pool, count);
+    if (mz_pool_is_queued(pool) && !lane->count) lane->is_wanted = 1;
+    else if (mz_pool_is_queued(pool)) mz_pool_wake_one(pool);
     pthread_mutex_unlock(&pool->queue_lock);
 }
 
@@ -266,7 +275,8 @@ static inline void mz_pool_finish(mz_pool_lane *lane, mz_pool_item *item, mz_cod
     }
     item->code = code;
     pool->counts.told++;
-    mz_pool_put(&lane->ended, item);
+    if (item->by_caller) item->is_over = 1;
+    else mz_pool_put(&lane->ended, item);
 }
 
 static inline mz_code mz_pool_over(mz_pool_lane *lane, mz_pool_item *item) {
@@ -280,7 +290,8 @@ static inline mz_code mz_pool_over(mz_pool_lane *lane, mz_pool_item *item) {
     return c;
 }
 
-/* Ends the pool by this code: all calls that haven't ended are told, and its threads end. The first code counts. */
+/* Ends the pool by this code: all calls that haven't ended are told, or by their callers' threads; and its threads end. The first code
+ * counts. */
 static inline void mz_pool_fail(mz_pool *pool, mz_code code) {
     mz_pool_list all = {NULL, NULL, 0};
     pthread_mutex_lock(&pool->lock);
@@ -291,7 +302,7 @@ static inline void mz_pool_fail(mz_pool *pool, mz_code code) {
     for (size_t b = 0; is_first && b < pool->bucket_count; b++)
         for (mz_pool_item *item = pool->buckets[b]; item; item = item->next_of_bucket) {
             mz_pool_put_all(&all, &item->waiters);
-            mz_pool_put(&all, item);
+            if (!item->by_caller) mz_pool_put(&all, item);
         }
     for (size_t i = 0; i < pool->lane_count; i++) mz_pool_wake(pool->lanes[i]);
     pthread_cond_broadcast(&pool->drained);
@@ -438,8 +449,8 @@ static inline mz_code mz_pool_reply(mz_pool_lane *lane, size_t i, size_t *answer
     return MZ_OK;
 }
 
-/* The rest after a round that nobody answered, and what is to be told of it: MZ_NO_PLACE is nothing. */
-static inline mz_code mz_pool_rests(mz_pool_lane *lane, size_t answered) {
+/* The rest after a round that nobody answered, and what is to be told of it. */
+static inline void mz_pool_rests(mz_pool_lane *lane, size_t answered) {
     mz_pool *pool = lane->pool;
     int was_silent = lane->rest == pool->longest_rest;
     if (answered) {
@@ -453,18 +464,16 @@ static inline mz_code mz_pool_rests(mz_pool_lane *lane, size_t answered) {
     int is_silent = lane->rest == pool->longest_rest;
     pool->counts.silent += (uint64_t)is_silent - (uint64_t)was_silent;
     mz_code now = lane->news_code != MZ_OK ? lane->news_code : is_silent ? MZ_SILENT : answered ? MZ_OK : lane->trouble;
-    if (now == lane->trouble) return MZ_NO_PLACE;
-    lane->trouble = now;
-    return now;
+    if (now != lane->trouble) lane->trouble = lane->heard = now;
 }
 
 /* All that came of what it carried. */
-static inline mz_code mz_pool_take_in(mz_pool_lane *lane, mz_code *heard) {
+static inline mz_code mz_pool_take_in(mz_pool_lane *lane) {
     size_t answered = 0;
     mz_code c = MZ_OK;
     for (size_t i = 0; i < lane->count && c == MZ_OK; i++) c = mz_pool_reply(lane, i, &answered);
     if (lane->redoes) lane->pool->counts.redone += answered;
-    if (lane->count) *heard = mz_pool_rests(lane, answered);
+    if (lane->count) mz_pool_rests(lane, answered);
     lane->count = 0;
     return c;
 }
@@ -514,18 +523,20 @@ static inline uint64_t mz_pool_until(const mz_pool_lane *lane) {
     return until;
 }
 
+static inline mz_code mz_pool_ends(const mz_pool *pool) { return pool->failed != MZ_OK ? pool->failed : pool->broken; }
+
 /* All that is done under the lock. *until is how far the log has to stay before anything is carried or told. */
-static inline mz_code mz_pool_locked(mz_pool_lane *lane, uint64_t *until, uint64_t *wakes, mz_code *heard) {
+static inline mz_code mz_pool_locked(mz_pool_lane *lane, uint64_t *until, uint64_t *wakes) {
     mz_pool *pool = lane->pool;
     pthread_mutex_lock(&pool->lock);
-    mz_code c = pool->failed;
-    if (c == MZ_OK) c = mz_pool_take_in(lane, heard);
+    mz_code c = mz_pool_ends(pool);
+    if (c == MZ_OK) c = mz_pool_take_in(lane);
     if (c == MZ_OK) c = mz_pool_undo_again(lane);
     if (c == MZ_OK) c = mz_pool_admit_all(lane);
     if (c == MZ_OK) c = mz_pool_choose(lane);
     if (c == MZ_OK && pool->log && (lane->count || lane->ended.count)) c = mz_log_write(pool->log, until);
     *wakes = mz_pool_until(lane);
-    mz_pool_wake_due(lane);
+    mz_pool_wake_due(pool, lane);
     pthread_mutex_unlock(&pool->lock);
     return c;
 }
@@ -538,8 +549,9 @@ static inline mz_code mz_pool_stays(mz_pool *pool, uint64_t until) {
 static inline mz_code mz_pool_round(mz_pool_lane *lane) {
     mz_pool *pool = lane->pool;
     uint64_t until = 0, wakes = 0;
-    mz_code heard = MZ_NO_PLACE, c = mz_pool_locked(lane, &until, &wakes, &heard);
-    if (heard != MZ_NO_PLACE && pool->options.heard) pool->options.heard(pool->options.heard_context, lane->dc, heard);
+    mz_code c = mz_pool_locked(lane, &until, &wakes);
+    if (lane->heard != MZ_NO_PLACE && pool->options.heard) pool->options.heard(pool->options.heard_context, lane->dc, lane->heard);
+    lane->heard = MZ_NO_PLACE;
     if (c == MZ_OK && (lane->count || lane->ended.count)) c = mz_pool_stays(pool, until);
     if (lane->ended.count) mz_pool_tell_ended(lane, c);
     if (c != MZ_OK) return c;
@@ -554,6 +566,105 @@ static inline void *mz_pool_runs(void *context) {
     while (c == MZ_OK) c = mz_pool_round(lane);
     mz_pool_fail(lane->pool, c);
     return NULL;
+}
+
+/* ---- rounds by a caller's thread, of its call alone: nothing is handed to another thread where nobody else uses the data component. What
+ * isn't an answer to it goes to the pool's threads, with the call. */
+
+/* Admits it, where no other call comes first. */
+static inline mz_code mz_pool_admit_own(mz_pool *pool, mz_pool_item *item) {
+    pool->busy_holder = 0;
+    if (!pool->urgent || pool->counts.silent) return mz_pool_admit(pool->lanes[0], item);
+    pthread_mutex_lock(&pool->queue_lock);
+    mz_pool_put(&pool->queues[MZ_POOL_NEW], item);
+    pool->in_use--;
+    mz_pool_wake_one(pool);
+    pthread_mutex_unlock(&pool->queue_lock);
+    return MZ_OK;
+}
+
+/* Whether the lane in which it waits has nothing else to do; under both locks. */
+static inline int mz_pool_is_free(const mz_pool_lane *lane, const mz_pool_item *item) {
+    return item->is_fresh && lane->is_idle && !lane->is_wanted && !lane->rest && !lane->set_aside.count && lane->waiting.count == 1;
+}
+
+/* Back to its thread, under the queue's lock. */
+static inline void mz_pool_give_back(mz_pool_lane *lane) {
+    lane->is_taken = 0;
+    lane->is_idle = 1;
+}
+
+/* Gives the lane back that was held, and takes the one in which it waits, if that is free. NULL: it is over, or the pool's threads
+ * go on with it. */
+static inline mz_pool_lane *mz_pool_take_lane(mz_pool *pool, mz_pool_lane *held, mz_pool_item *item) {
+    mz_pool_lane *lane = item->txn && !item->is_over ? pool->lanes[item->wire.record.dc] : NULL;
+    pthread_mutex_lock(&pool->queue_lock);
+    if (held) mz_pool_give_back(held);
+    if (lane && !mz_pool_is_free(lane, item)) lane = NULL;
+    if (held && held != lane && (held->is_wanted || held->waiting.count || held->set_aside.count)) mz_pool_wake(held);
+    if (lane) lane->is_idle = 0;
+    if (lane) lane->is_taken = 1;
+    if (item->is_over && mz_pool_is_queued(pool)) mz_pool_wake_one(pool); /* they waited for its end */
+    item->by_caller = lane || item->is_over;
+    pool->callers -= !item->by_caller;
+    pthread_mutex_unlock(&pool->queue_lock);
+    mz_pool_wake_due(pool, lane);
+    return lane;
+}
+
+/* As mz_pool_locked, in the lane that it holds, or none yet. */
+static inline mz_code mz_pool_own_locked(mz_pool *pool, mz_pool_item *item, mz_pool_lane **lane, uint64_t *until) {
+    pthread_mutex_lock(&pool->lock);
+    mz_code c = mz_pool_ends(pool);
+    if (c == MZ_OK) c = *lane ? mz_pool_take_in(*lane) : mz_pool_admit_own(pool, item);
+    if (c == MZ_OK) *lane = mz_pool_take_lane(pool, *lane, item);
+    if (c == MZ_OK && *lane) c = mz_pool_choose(*lane);
+    if (c == MZ_OK && pool->log && item->by_caller) c = mz_log_write(pool->log, until);
+    pthread_mutex_unlock(&pool->lock);
+    return c;
+}
+
+/* The pool's threads end it by this code, and tell its calls, this one too; but where they did so before, or it is over. */
+static inline void mz_pool_break(mz_pool *pool, mz_pool_lane *lane, mz_pool_item *item, mz_code code) {
+    pthread_mutex_lock(&pool->lock);
+    if (pool->broken == MZ_OK) pool->broken = code;
+    item->code = mz_pool_ends(pool);
+    item->by_caller = item->is_over || !item->txn || pool->failed != MZ_OK;
+    pthread_mutex_lock(&pool->queue_lock);
+    pthread_mutex_unlock(&pool->lock); /* once nobody makes rounds the pool may be gone */
+    if (lane) lane->count = 0;
+    if (lane) mz_pool_give_back(lane);
+    for (size_t i = 0; i < pool->lane_count; i++) mz_pool_wake(pool->lanes[i]);
+    pool->callers--;
+    if (pool->closing) pthread_cond_broadcast(&pool->drained);
+    pthread_mutex_unlock(&pool->queue_lock);
+}
+
+/* Its place, of whoever has ended by its own thread. */
+static inline void mz_pool_leave(mz_pool *pool) {
+    pthread_mutex_lock(&pool->queue_lock);
+    mz_pool_give_places(pool, 1);
+    if (mz_pool_is_queued(pool)) mz_pool_wake_one(pool);
+    pool->callers--;
+    if (pool->closing) pthread_cond_broadcast(&pool->drained);
+    pthread_mutex_unlock(&pool->queue_lock);
+}
+
+/* Goes on with it as far as it may, and tells it where it ended. */
+static inline void mz_pool_own_rounds(mz_pool *pool, mz_pool_item *item) {
+    mz_pool_lane *lane = NULL;
+    uint64_t until = 0;
+    mz_code c = mz_pool_own_locked(pool, item, &lane, &until);
+    while (c == MZ_OK && lane) {
+        c = mz_pool_stays(pool, until);
+        if (c != MZ_OK) break;
+        pool->carry(pool->context, lane->wires, lane->count, lane->carried, lane->replies, lane->news);
+        c = mz_pool_own_locked(pool, item, &lane, &until);
+    }
+    if (c == MZ_OK && item->by_caller) c = mz_pool_stays(pool, until);
+    if (c != MZ_OK) mz_pool_break(pool, lane, item, c);
+    else if (item->by_caller) mz_pool_leave(pool);
+    if (item->by_caller) item->told(item->context, item->code, &item->receipt);
 }
 
 #ifdef __cplusplus

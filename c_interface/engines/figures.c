@@ -184,6 +184,8 @@ static void over_engine(void) {
     by_threads("mz_run, 8 threads", THREADS_TODAY, calls_alone);
     for (size_t calls = 1; calls <= 512; calls *= 8) by_calls(calls);
     open_pool(64);
+    by_threads("mz_pool_call, 1 thread", 1, calls_pool);
+    by_threads("mz_pool_call, 8 threads", THREADS_TODAY, calls_pool);
     by_threads("mz_pool_call, 64 threads", 64, calls_pool);
     close_pool();
 }
