@@ -204,7 +204,7 @@ static inline mz_code mz_pool_fill(mz_pool_item *item, const char *procedure, co
 /* Whether a call that comes now is admitted by its caller's thread: there is a place, none comes first, and a data component may be
  * idle; under the queue's lock. */
 static inline int mz_pool_may_enter(const mz_pool *pool) {
-    return !pool->draining && pool->in_use < pool->calls_at_once && pool->in_use < pool->lane_count && !mz_pool_is_queued(pool);
+    return !pool->draining && pool->in_use < pool->calls_at_once && pool->in_use <= pool->lane_count && !mz_pool_is_queued(pool);
 }
 
 /* Has it queued; but where its caller's thread may make its rounds, which *by_caller then says. */

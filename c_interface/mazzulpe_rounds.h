@@ -213,7 +213,7 @@ static inline void mz_pool_wait(mz_pool *pool, pthread_cond_t *condition, uint64
 static inline void mz_pool_sleep(mz_pool_lane *lane, uint64_t until) {
     mz_pool *pool = lane->pool;
     pthread_mutex_lock(&pool->queue_lock);
-    lane->is_idle = 1;
+    lane->is_idle = !lane->is_taken;
     while (lane->is_taken || (!lane->is_wanted && (!until || mz_pool_now() < until)))
         mz_pool_wait(pool, &lane->wanted, lane->is_taken ? 0 : until);
     lane->is_idle = lane->is_wanted = 0;
@@ -242,14 +242,18 @@ static inline void mz_pool_give_places(mz_pool *pool, size_t count) {
     if ((pool->draining && !pool->in_use) || (pool->closing && !pool->calls)) pthread_cond_broadcast(&pool->drained);
 }
 
-/* Tells those that this thread ended, whose places are free then: it looks itself who wants them, if it has nothing to carry. */
-static inline void mz_pool_tell_ended(mz_pool_lane *lane, mz_code failed) {
+/* Tells those that this thread ended, whose places are free then. If it has nothing to carry whoever is told may take the lane at once,
+ * and this thread looks itself who wants the places. */
+static inline void mz_pool_tell_ended(mz_pool_lane *lane, int carries, mz_code failed) {
     mz_pool *pool = lane->pool;
     size_t count = lane->ended.count;
+    pthread_mutex_lock(&pool->queue_lock);
+    lane->is_idle = !carries && failed == MZ_OK;
+    pthread_mutex_unlock(&pool->queue_lock);
     mz_pool_tell(&lane->ended, failed);
     pthread_mutex_lock(&pool->queue_lock);
     mz_pool_give_places(pool, count);
-    if (mz_pool_is_queued(pool) && !lane->count) lane->is_wanted = 1;
+    if (mz_pool_is_queued(pool) && lane->is_idle) lane->is_wanted = 1;
     else if (mz_pool_is_queued(pool)) mz_pool_wake_one(pool);
     pthread_mutex_unlock(&pool->queue_lock);
 }
@@ -552,10 +556,11 @@ static inline mz_code mz_pool_round(mz_pool_lane *lane) {
     mz_code c = mz_pool_locked(lane, &until, &wakes);
     if (lane->heard != MZ_NO_PLACE && pool->options.heard) pool->options.heard(pool->options.heard_context, lane->dc, lane->heard);
     lane->heard = MZ_NO_PLACE;
-    if (c == MZ_OK && (lane->count || lane->ended.count)) c = mz_pool_stays(pool, until);
-    if (lane->ended.count) mz_pool_tell_ended(lane, c);
+    const int carries = lane->count > 0;
+    if (c == MZ_OK && (carries || lane->ended.count)) c = mz_pool_stays(pool, until);
+    if (lane->ended.count) mz_pool_tell_ended(lane, carries, c);
     if (c != MZ_OK) return c;
-    if (lane->count) pool->carry(pool->context, lane->wires, lane->count, lane->carried, lane->replies, lane->news);
+    if (carries) pool->carry(pool->context, lane->wires, lane->count, lane->carried, lane->replies, lane->news);
     else mz_pool_sleep(lane, wakes);
     return MZ_OK;
 }

@@ -1,7 +1,7 @@
 /* mazzulpe_pool.h over the library's data components: which calls go together, how many, and in which order; one sync a round, before
  * anything is carried or told; components that are silent, restart, have forgotten or have no room; what ends a pool; what comes back
- * from the log. Then threads over components that lose replies, give late ones and restart, with checkpoints: no call is lost, and none
- * is made twice. Nothing that is expected depends on how quick it is. */
+ * from the log; calls by their callers' own threads, and what has them handed over. Then threads over components that lose replies, give
+ * late ones and restart, with checkpoints: no call is lost, and none is made twice. Nothing that is expected depends on how quick it is. */
 #define _GNU_SOURCE
 #include "mazzulpe_object.h"
 #include "deleting.h"
@@ -65,6 +65,17 @@ static void until_counted(bank *b, uint64_t open, uint64_t waiting, uint64_t que
     const struct timespec moment = {0, 100000};
     mz_pool_counts n;
     while (mz_pool_count(b->pool, &n) == MZ_OK && (n.open < open || n.waiting < waiting || n.queued < queued)) nanosleep(&moment, NULL);
+}
+
+/* Until no call is under way, and the pool's threads have nothing to do. */
+static void until_idle(bank *b) {
+    const struct timespec moment = {0, 100000};
+    for (int idle = 0; !idle; nanosleep(&moment, NULL)) {
+        pthread_mutex_lock(&b->pool->queue_lock);
+        idle = !b->pool->in_use;
+        for (int d = 0; d < DCS; d++) idle &= b->pool->lanes[d]->is_idle && !b->pool->lanes[d]->is_wanted;
+        pthread_mutex_unlock(&b->pool->queue_lock);
+    }
 }
 
 /* ---- a bank */
@@ -439,6 +450,7 @@ static void log_fails(void) {
     pooled(&b, MANY);
     SEEN(commits(&b, "deposit_here", 1, 1, 0));
     uint64_t batches = b.s.of[0].batches;
+    until_idle(&b);
     __atomic_store_n(&device_fails, 1, __ATOMIC_SEQ_CST);
     SEEN(call(&b, "deposit_here", 1, 1, 0, &receipt) == MZ_LOG_FAILED && b.s.of[0].batches == batches);
     SEEN(call(&b, "deposit_there", 1, 1, 0, &receipt) == MZ_LOG_FAILED);
@@ -475,6 +487,190 @@ static void comes_back(void) {
     closed(&b);
 }
 
+/* ---- rounds by a caller's thread */
+
+/* A call of a thread of its own, held on its way to component 0, which counts what this thread carries. */
+typedef struct { bank *of; pthread_t thread; mz_code code; mz_receipt receipt; } caller;
+
+static void *calls_here(void *context) {
+    caller *one = (caller *)context;
+    watch(&one->of->s.of[0], pthread_self());
+    one->code = call(one->of, "deposit_here", 90, 5, 0, &one->receipt);
+    return context;
+}
+
+static void held_call(bank *b, caller *one) {
+    until_idle(b);
+    one->of = b;
+    hold(&b->s.of[0]);
+    if (pthread_create(&one->thread, NULL, calls_here, one)) exit(2);
+    until_within(&b->s.of[0]);
+}
+
+static void joined(const caller *one, mz_code code) {
+    pthread_join(one->thread, NULL);
+    SEEN(one->code == code && (code != MZ_OK || one->receipt.outcome == MZ_COMMITTED));
+}
+
+/* Where nobody else is under way a call's own thread carries, to one component after the other; and again after a flood. */
+static void goes_itself(void) {
+    static bank b;
+    static submitted calls[MANY];
+    mz_pool_counts n;
+    opened(&b, 100, MANY);
+    b.s.is_alone = 1;
+    for (int turn = 0; turn < 2; turn++) {
+        until_idle(&b);
+        for (int d = 0; d < DCS; d++) watch(&b.s.of[d], pthread_self());
+        SEEN(commits(&b, "deposit_here", 1, 10, 0) && commits(&b, "deposit_there", 2, 0, 0) && commits(&b, "move", 1, 2, 1));
+        for (int d = 0; d < DCS; d++) SEEN(b.s.of[d].batches && b.s.of[d].by_watched == b.s.of[d].batches);
+        submits(&b, calls, MANY, "deposit_here", 10, 1);
+        until(&b.t, &b.t.told, (uint64_t)(turn + 1) * MANY);
+    }
+    SEEN(mz_pool_count(b.pool, &n) == MZ_OK && n.told == 2 * MANY + 6 && n.open == 0 && balance_at(&b.s, 1, 2) == 2);
+    closed(&b);
+}
+
+/* Calls that come while it carries wait for it, and take it with them then. */
+static void meets_flood(void) {
+    static bank b;
+    static submitted calls[MANY];
+    static caller one;
+    component *c = &b.s.of[0];
+    opened(&b, 100, 2 * MANY);
+    held_call(&b, &one);
+    submits(&b, calls, MANY, "deposit_here", 0, 1);
+    until_counted(&b, MANY + 1, 0, 0);
+    SEEN(c->by_watched == 1 && c->batches == 1);
+    let_go(c);
+    joined(&one, MZ_OK);
+    until(&b.t, &b.t.committed, MANY);
+    SEEN(c->by_watched == 1 && c->largest > MANY && balance_at(&b.s, 0, 90) == 5);
+    closed(&b);
+}
+
+/* Its record is another's to wait for, who gets on at its end. */
+static void is_waited_for(void) {
+    static bank b;
+    static submitted next;
+    static caller one;
+    opened(&b, 100, MANY);
+    held_call(&b, &one);
+    submit(&b, &next, 0, "deposit_here", 90, 1);
+    until_counted(&b, 1, 1, 0);
+    let_go(&b.s.of[0]);
+    joined(&one, MZ_OK);
+    until(&b.t, &b.t.committed, 1);
+    SEEN(balance_at(&b.s, 0, 90) == 6);
+    closed(&b);
+}
+
+/* Silence, another's reply, a loss: a thread of the pool rests, redoes and carries again. */
+static void meets_trouble(void) {
+    static bank b;
+    component *c = &b.s.of[0];
+    opened(&b, 100, MANY);
+    SEEN(commits(&b, "deposit_here", 1, 10, 0));
+    for (int way = 0; way < 2; way++) {
+        until_idle(&b);
+        watch(c, pthread_self());
+        c->silent = way ? 0 : 5;
+        if (way) component_restarts(c);
+        SEEN(commits(&b, "deposit_here", 1, 10, 0) && c->by_watched == 1 && c->batches > 2);
+    }
+    SEEN(b.t.silences == 1 && b.t.answers == 1 && balance_at(&b.s, 0, 1) == 30);
+    until_idle(&b);
+    watch(c, pthread_self());
+    SEEN(commits(&b, "deposit_here", 1, 10, 0) && c->by_watched == c->batches);
+    closed(&b);
+}
+
+/* What ends a pool, met by a call's own thread: it and all others are told. */
+static void meets_end(void) {
+    static const mz_code codes[] = {MZ_DIVERGED, MZ_DEPOSED, MZ_DEPOSED, MZ_LOG_FAILED};
+    static bank b;
+    static submitted other;
+    static caller one;
+    for (int way = 0; way < 4; way++) {
+        opened(&b, 100, MANY);
+        b.t.expected = codes[way];
+        held_call(&b, &one);
+        hold(&b.s.of[1]);
+        submit(&b, &other, 0, "deposit_there", 1, 5);
+        until_within(&b.s.of[1]);
+        (void)then_said(&b.s.of[0], way);
+        let_go(&b.s.of[0]);
+        joined(&one, codes[way]);
+        until(&b.t, &b.t.by_code, 1);
+        SEEN(b.s.of[0].by_watched == 1 && commits(&b, "deposit_here", 1, 1, 0) == 0);
+        let_go(&b.s.of[1]);
+        closed(&b);
+    }
+}
+
+static void *closes(void *context) {
+    mz_pool_close(((bank *)context)->pool, 0);
+    return context;
+}
+
+/* A pool that is closed while it carries: that ends once it is back, and the log has the call. */
+static void is_closed_upon(void) {
+    static bank b;
+    static caller one;
+    const struct timespec moment = {0, 100000};
+    uint64_t count = 0;
+    pthread_t thread;
+    opened(&b, 100, MANY);
+    held_call(&b, &one);
+    mz_pool *pool = b.pool;
+    if (pthread_create(&thread, NULL, closes, &b)) exit(2);
+    for (mz_code failed = MZ_OK; failed == MZ_OK; nanosleep(&moment, NULL)) {
+        pthread_mutex_lock(&pool->queue_lock);
+        failed = pool->failed;
+        pthread_mutex_unlock(&pool->queue_lock);
+    }
+    let_go(&b.s.of[0]);
+    joined(&one, MZ_NOT_OVER);
+    pthread_join(thread, NULL);
+    SEEN(mz_open_count(b.tc) == 1);
+    put_away(&b);
+    loaded(&b, path);
+    pooled(&b, MANY);
+    SEEN(mz_pool_come_back(b.pool, &count) == MZ_OK && count == 1 && balance_at(&b.s, 0, 90) == 5);
+    closed(&b);
+}
+
+static void *checkpoints_once(void *context) {
+    bank *b = (bank *)context;
+    SEEN(mz_pool_checkpoint(b->pool, LONG, keep, &b->s) == MZ_OK);
+    return context;
+}
+
+/* A checkpoint waits for it; who comes meanwhile waits for the checkpoint. */
+static void is_drained(void) {
+    static bank b;
+    static submitted next;
+    static caller one;
+    const struct timespec moment = {0, 100000};
+    pthread_t thread;
+    opened(&b, 100, MANY);
+    held_call(&b, &one);
+    if (pthread_create(&thread, NULL, checkpoints_once, &b)) exit(2);
+    for (int draining = 0; !draining; nanosleep(&moment, NULL)) {
+        pthread_mutex_lock(&b.pool->queue_lock);
+        draining = b.pool->draining;
+        pthread_mutex_unlock(&b.pool->queue_lock);
+    }
+    submit(&b, &next, 0, "deposit_there", 1, 5);
+    until_counted(&b, 1, 0, 1);
+    let_go(&b.s.of[0]);
+    joined(&one, MZ_OK);
+    pthread_join(thread, NULL);
+    until(&b.t, &b.t.committed, 1);
+    SEEN(balance_at(&b.s, 0, 90) == 5 && balance_at(&b.s, 1, 1) == 5);
+    closed(&b);
+}
+
 /* ---- threads */
 
 typedef struct { bank *of; uint64_t number, made; } worker;
@@ -502,14 +698,15 @@ static void *makes_checkpoints(void *context) {
     return context;
 }
 
-static void by_threads(void) {
+/* By this many, with so many calls at once. */
+static void by_threads(uint64_t count, size_t calls_at_once) {
     static bank b;
     pthread_t threads[THREADS + 1];
     worker workers[THREADS];
     checkpoints k = {&b, 0, 0, 0};
     uint64_t sum = 0;
-    opened_over(&b, 1000, THREADS / 2, 1);
-    for (uint64_t t = 0; t < THREADS; t++) SEEN(commits(&b, "deposit_here", t, OPENING, 0));
+    opened_over(&b, 1000, calls_at_once, 1);
+    for (uint64_t t = 0; t < count; t++) SEEN(commits(&b, "deposit_here", t, OPENING, 0));
     for (uint64_t a = 0; a < 20; a++) SEEN(commits(&b, "deposit_there", a, 0, 0));
     for (int d = 0; d < DCS; d++) {
         pthread_mutex_lock(&b.s.of[d].lock);
@@ -517,22 +714,22 @@ static void by_threads(void) {
         b.s.of[d].restarts_each = d ? 97 : 53;
         pthread_mutex_unlock(&b.s.of[d].lock);
     }
-    for (uint64_t t = 0; t < THREADS; t++) {
+    for (uint64_t t = 0; t < count; t++) {
         workers[t].of = &b;
         workers[t].number = t;
         workers[t].made = 0;
         if (pthread_create(&threads[t], NULL, works, &workers[t])) exit(2);
     }
-    if (pthread_create(&threads[THREADS], NULL, makes_checkpoints, &k)) exit(2);
-    for (uint64_t t = 0; t < THREADS; t++) pthread_join(threads[t], NULL);
+    if (pthread_create(&threads[count], NULL, makes_checkpoints, &k)) exit(2);
+    for (uint64_t t = 0; t < count; t++) pthread_join(threads[t], NULL);
     __atomic_store_n(&k.is_over, 1, __ATOMIC_SEQ_CST);
-    pthread_join(threads[THREADS], NULL);
-    for (uint64_t t = 0; t < THREADS; t++) {
+    pthread_join(threads[count], NULL);
+    for (uint64_t t = 0; t < count; t++) {
         SEEN(workers[t].made == TURNS && balance_at(&b.s, 0, t) == OPENING - TURNS);
         sum += balance_at(&b.s, 0, t);
     }
     for (uint64_t a = 0; a < 20; a++) sum += balance_at(&b.s, 1, a);
-    SEEN(sum == THREADS * OPENING && b.s.of[0].restarts && b.s.of[1].restarts && b.s.of[0].lost && b.s.of[1].late);
+    SEEN(sum == count * OPENING && b.s.of[0].restarts && b.s.of[1].restarts && b.s.of[0].lost && b.s.of[1].late);
     closed(&b);
 }
 
@@ -554,7 +751,15 @@ int main(void) {
     ends();
     log_fails();
     comes_back();
-    by_threads();
+    goes_itself();
+    meets_flood();
+    is_waited_for();
+    meets_trouble();
+    meets_end();
+    is_closed_upon();
+    is_drained();
+    by_threads(THREADS, THREADS / 2);
+    by_threads(2, THREADS);
     unlink(path);
     snprintf(path, sizeof path, "%s/log.session", folder);
     unlink(path);

@@ -20,6 +20,8 @@ typedef struct {
     mz_said said;             /* in the place of what it says, where it isn't 0 */
     mz_carried instead;       /* the same of what became of each wire */
     uint64_t batches, largest, lost, late, restarts;
+    pthread_t watched; /* batches that this thread carried */
+    uint64_t by_watched;
     unsigned drawn;
     mz_wire kept[KEPT_WIRES]; /* wires that it was sent, which come again */
     uint64_t sent;
@@ -101,6 +103,7 @@ static inline void carry(void *context, const mz_wire *wires, size_t count, mz_c
     looks_at_log(s);
     c->within = 1;
     c->batches++;
+    c->by_watched += pthread_equal(c->watched, pthread_self()) != 0;
     if (c->restarts_each && c->batches % c->restarts_each == 0) component_restarts(c);
     if (count > c->largest) c->largest = count;
     pthread_cond_broadcast(&c->moved);
@@ -147,6 +150,14 @@ static inline void let_one_go(component *c) {
     pthread_mutex_lock(&c->lock);
     c->passes++;
     pthread_cond_broadcast(&c->moved);
+    pthread_mutex_unlock(&c->lock);
+}
+
+/* From now on batches by this thread are counted. */
+static inline void watch(component *c, pthread_t thread) {
+    pthread_mutex_lock(&c->lock);
+    c->watched = thread;
+    c->by_watched = c->batches = 0;
     pthread_mutex_unlock(&c->lock);
 }
 
