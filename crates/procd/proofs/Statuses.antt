@@ -22,8 +22,7 @@ use Rattle.log_command.specs.LogReport.{IsBeside, NotRead, Anothers, Own, IsAudi
 use Rattle.log_command.specs.PictureReport.{IsPicturing, Drawn, NotDrawn}
 use Rattle.run_ground.specs.declared.ground.Checkpoints.{Checkpoints}
 use Rattle.run_log.specs.declared.anew.Renewal.{Renewal}
-use Rattle.run_calls.specs.Answered.{is_failed, run_status}
-use Rattle.worker_pool.specs.declared.answer.Answer.{Answer as CallAnswer}
+use Rattle.run_calls.specs.Answered.{is_failed}
 use Rattle.run_ground.specs.Kept.{FileJournal}
 use Rattle.run_command.specs.Parts.{IsKeptSo}
 use Rattle.run_command.specs.Running.{IsRunBy, IsCallsRun, Ran, Stopped, never}
@@ -84,20 +83,15 @@ sound_low : (sound : Bool) → (if sound then 0 else 1) ≤ 1
 sound_low true = omega arith
 sound_low false = omega arith
 
-told_low : (strict : Bool) (answers : List CallAnswer) (sound : Bool) (status : ℕ) → status ≡ run_status strict answers sound → status ≤ 1
-told_low strict answers sound status is =
-    omega (
-      arith,
-      is,
-      elim (strict && list_any is_failed answers) as (λ b. (if b then 1 else (if sound then 0 else 1)) ≤ 1)
-          [ true ↦ omega arith | false ↦ sound_low sound ],
-    )
+told_low : (failed sound : Bool) (status : ℕ) → status ≡ (if failed then 1 else (if sound then 0 else 1)) → status ≤ 1
+told_low true sound status is = omega (arith, is)
+told_low false sound status is = omega (arith, is, sound_low sound)
 
 calls_low : (Kept : Core → Renewal → Type 0) (checkpoints : Checkpoints) (start : Core) (dcs : List Store)
     (first calls : List Call) (workers tries : ℕ) (audit strict results : Bool) (status : ℕ) (lines : List ℕ)
     → IsCallsRun Kept checkpoints start dcs first calls workers tries audit strict results status lines → status ≤ 1
 calls_low Kept checkpoints start dcs first calls workers tries audit strict results status lines (Ran fit run) =
-    told_low strict run.other_answers run.printed.sound status run.printed.status_is
+    told_low (strict && list_any is_failed run.other_answers) run.printed.sound status run.printed.status_is
 calls_low Kept checkpoints start dcs first calls workers tries audit strict results status lines (Stopped fault when is line) = omega (arith, is)
 
 run_low : (refusal : Option (List ℕ)) (contents : Contents) (workers tries : ℕ) (audit strict results : Bool) (status : ℕ) (lines : List ℕ)
@@ -129,13 +123,13 @@ apart_behind_low : (contents : Contents) (workers tries : ℕ) (audit strict : B
     → IsApartBehind contents workers tries audit strict status lines → status ≤ 1
 apart_behind_low contents workers tries audit strict status lines (RefusedApart numbers partitions p refusal why is line) = omega (arith, is)
 apart_behind_low contents workers tries audit strict status lines (BehindApart h) =
-    apart_low (AreRunBehind contents audit strict status lines) workers tries status lines (λ all. told_low strict all.run.other_answers all.run.sound status all.run.status_is) h
+    apart_low (AreRunBehind contents audit strict status lines) workers tries status lines (λ all. told_low (strict && list_any is_failed all.run.other_answers) all.run.sound status all.run.status_is) h
 
 partitioned_low : (keeps : Bool) (refusal : Option (List ℕ)) (contents : Contents) (workers tries : ℕ) (audit strict : Bool) (status : ℕ) (lines : List ℕ)
     → IsPartitionedBy keeps refusal contents workers tries audit strict status lines → status ≤ 1
 partitioned_low keeps (Some refusal) contents workers tries audit strict status lines h = omega (arith, h.0)
 partitioned_low false None contents workers tries audit strict status lines h =
-    apart_low (IsRunApart contents audit strict status lines) workers tries status lines (λ all. told_low strict all.other_answers all.sound status all.status_is) h
+    apart_low (IsRunApart contents audit strict status lines) workers tries status lines (λ all. told_low (strict && list_any is_failed all.other_answers) all.sound status all.status_is) h
 partitioned_low true None contents workers tries audit strict status lines h = apart_behind_low contents workers tries audit strict status lines h
 
 steps_low : (all : Bool) → status_of_steps all ≤ 1
