@@ -37,7 +37,7 @@ use Rattle.base_records.specs.Lines.{base_fault_line}
 use Rattle.log_command.specs.Joining.Beginning.{IsOfLog}
 use Rattle.log_command.specs.LogReport.{stored_lines, IsListing, Listed, AreBrought, AreAuditLines, IsUnfit}
 use Rattle.log_command.specs.LogReport.{IsChecked, NotBegun, NotBrought, Audited}
-use Rattle.log_command.specs.LogReport.{IsBeside, Anothers, Own, IsAudit, IsAuditBy}
+use Rattle.log_command.specs.LogReport.{own_header, IsBeside, Anothers, Own, IsAudit, IsAuditBy}
 
 pub listed_is : {E : Type 0} (part : Part) (rows : Bool) (file : List ℕ) (s : Stored) (result : Result Output E) → IsStored file s
     → IfOk result (λ r. string_bytes r.lines ≡ stored_lines part rows s) → IfOk result (λ r. r.status ≡ 0)

@@ -1,6 +1,6 @@
 -- The answers and the data components of all partitions together.
 use Rattle.std.proofs.Common.{add-zero, arith, inl, inr, ◌≡◌, ◌∙◌, ◌<◌, ◌+◌, ℕ, Bool, true, false, max, List, [], ◌∷◌, ◌++◌, length, map, take, get_or, refl, sym, ap, subst}
-use Rattle.std.specs.Prelude.{◌&&◌, if◌then◌else◌, Option, Some, None, option_map, slice_get, Result, Ok, Err, IfOk, All, codes, string_bytes}
+use Rattle.std.specs.Prelude.{◌&&◌, if◌then◌else◌, suc, Option, Some, None, option_map, slice_get, Result, Ok, Err, IfOk, All, codes, string_bytes}
 use Rattle.std.specs.List.{list_any}
 use Rattle.std.specs.Global.{Vec}
 use Rattle.std.proofs.lemmas.List.{length-map, length-take-le, map-append, take_more}
@@ -361,7 +361,7 @@ kept_more numbers grounds dcs i d kept rows old lines new lt done here is are mo
 
 kept_length : (numbers : List ℕ) (grounds : List (Option Ground)) (dc : ℕ) (dcs : List Store) → length (kept_from numbers grounds dc dcs) ≡ length dcs
 kept_length numbers grounds dc [] = refl
-kept_length numbers grounds dc (empty ∷ dcs) = ap (λ (n : ℕ). n + 1) (kept_length numbers grounds (dc + 1) dcs)
+kept_length numbers grounds dc (empty ∷ dcs) = ap suc (kept_length numbers grounds (dc + 1) dcs)
 
 -- behind the lines of those that are full comes that of the next
 pub full_more : (numbers : List ℕ) (grounds : List (Option Ground)) (dcs : List Store) (i : ℕ) (d kept : Store) (text new : List ℕ) → i < length dcs

@@ -124,6 +124,7 @@ fn a_file_is_read(rt: HostRuntime) -> Result<(), Fail> {
             base: None,
             log,
             notes,
+            frames: _,
             unfinished,
         },
     ) = read_file(alloc, &file)

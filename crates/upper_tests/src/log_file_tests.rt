@@ -320,6 +320,7 @@ fn it_is_read_by_itself(rt: HostRuntime) {
         base,
         log,
         notes,
+        frames: _,
         unfinished,
     } = found;
     is_same(
