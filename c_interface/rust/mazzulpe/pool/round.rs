@@ -474,17 +474,17 @@ impl<D: Device + Send + Sync + 'static> Shared<D> {
         }
     }
 
-    /// Tells those that ended, whose places are free then. If it has nothing to carry whoever is told may take the lane at once, and
-    /// this thread looks itself who wants the places.
+    /// Tells those that ended, whose places are free then. If it has nothing to carry it looks itself who wants them; a call that was
+    /// alone leaves the lane free for its caller's next one.
     fn tell(&self, lane: u16, carries: bool, ended: Vec<(Call, Result<Ended, Refusal>)>, done: Result<(), Refusal>) {
         let (lane, count) = (usize::from(lane), ended.len());
-        self.queue().idle[lane] = !carries && done.is_ok();
+        self.queue().idle[lane] = !carries && count == 1 && done.is_ok();
         for (call, how) in ended {
             (call.told)(done.and(how));
         }
         let mut queue = self.queue();
         self.give_places(&mut queue, count);
-        if queue.is_queued() && queue.idle[lane] {
+        if queue.is_queued() && !carries && !queue.taken[lane] {
             queue.wanted[lane] = true;
         } else if queue.is_queued() {
             self.wake_one(&mut queue);
