@@ -242,18 +242,18 @@ static inline void mz_pool_give_places(mz_pool *pool, size_t count) {
     if ((pool->draining && !pool->in_use) || (pool->closing && !pool->calls)) pthread_cond_broadcast(&pool->drained);
 }
 
-/* Tells those that this thread ended, whose places are free then. If it has nothing to carry whoever is told may take the lane at once,
- * and this thread looks itself who wants the places. */
+/* Tells those that this thread ended, whose places are free then. If it has nothing to carry it looks itself who wants them; a call that
+ * was alone leaves the lane free for its caller's next one. */
 static inline void mz_pool_tell_ended(mz_pool_lane *lane, int carries, mz_code failed) {
     mz_pool *pool = lane->pool;
     size_t count = lane->ended.count;
     pthread_mutex_lock(&pool->queue_lock);
-    lane->is_idle = !carries && failed == MZ_OK;
+    lane->is_idle = !carries && count == 1 && failed == MZ_OK;
     pthread_mutex_unlock(&pool->queue_lock);
     mz_pool_tell(&lane->ended, failed);
     pthread_mutex_lock(&pool->queue_lock);
     mz_pool_give_places(pool, count);
-    if (mz_pool_is_queued(pool) && lane->is_idle) lane->is_wanted = 1;
+    if (mz_pool_is_queued(pool) && !carries && !lane->is_taken) lane->is_wanted = 1;
     else if (mz_pool_is_queued(pool)) mz_pool_wake_one(pool);
     pthread_mutex_unlock(&pool->queue_lock);
 }

@@ -84,7 +84,7 @@ static void end_if_refused(client *e, mz_code c) {
     if (c != MZ_OK) die("the log", c);
 }
 
-/* By a thread of the pool for each data component. Each sixteenth reply is lost on its way, where that is wanted. */
+/* By one thread at a time for each data component. Each sixteenth reply is lost on its way, where that is wanted. */
 static void carry(void *context, const mz_wire *wires, size_t count, mz_carried *carried, mz_reply *replies, mz_news *news) {
     static _Thread_local unsigned drawn;
     const client *e = (const client *)context;

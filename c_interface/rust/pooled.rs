@@ -10,11 +10,13 @@ use mazzulpe::{
     ARGUMENT_COUNT, BEHIND, Carried, DIVERGED, Dc, NO_PROCEDURE, NOT_OVER, News, ONE_DOWN, Outcome, Record, Refusal,
     Reply, SILENT, Said, TXNS_OPEN, Tc, Wire,
 };
+use std::collections::HashSet;
 use std::fs;
 use std::path::{Path, PathBuf};
 use std::sync::atomic::{AtomicBool, AtomicU64, Ordering::SeqCst};
 use std::sync::mpsc::channel;
 use std::sync::{Arc, Condvar, Mutex};
+use std::thread::{self, ThreadId};
 use std::time::Duration;
 
 const THREADS: u64 = 8;
@@ -37,6 +39,7 @@ struct Component {
     way: Way,
     batches: u64,
     largest: usize,
+    carriers: HashSet<ThreadId>,
     drawn: u32,
 }
 
@@ -74,6 +77,7 @@ impl Storage {
                 way: Way::default(),
                 batches: 0,
                 largest: 0,
+                carriers: HashSet::new(),
                 drawn: 1,
             })
         };
@@ -85,6 +89,7 @@ impl Storage {
         drop(self.let_go.wait_while(self.is_held.lock().unwrap(), |held| *held).unwrap());
         let mut of = self.of[usize::from(dc)].lock().unwrap();
         of.batches += 1;
+        of.carriers.insert(thread::current().id());
         of.largest = of.largest.max(wires.len());
         if of.way.restarts_each > 0 && of.batches.is_multiple_of(of.way.restarts_each) {
             of.news = of.dc.restart().unwrap();
@@ -157,7 +162,7 @@ fn calls() {
         pool.submit("deposit_here", &[of, 1], 0, move |ended| to.send((i, is_committed(&ended))).unwrap()).unwrap();
     }
     while pool.count().open + pool.count().waiting < 64 {
-        std::thread::yield_now();
+        thread::yield_now();
     }
     storage.hold(false);
     let told: Vec<(u64, bool)> = from.iter().take(64).collect();
@@ -193,6 +198,31 @@ fn is_silent() {
     println!("length {}", pool.look(Tc::log_length));
 }
 
+/// By the thread of the call's own, where nobody else is under way; and what it meets then.
+fn goes_itself() {
+    let storage = Storage::new();
+    let (to, from) = channel();
+    let heard =
+        Some(Box::new(move |dc: u16, what: Option<Refusal>| to.send((dc, what)).unwrap()) as mazzulpe::pool::Heard);
+    let pool = opened(None, &storage, 64, Options { heard, ..quick() });
+    let deposit = || pool.call("deposit_here", &[1, 5], 0);
+    let is_own = || {
+        storage.of[0].lock().unwrap().carriers.clear();
+        is_committed(&deposit()) && storage.of[0].lock().unwrap().carriers == HashSet::from([thread::current().id()])
+    };
+    println!("by its own thread: {}", (0..100).any(|_| is_own()));
+    storage.set(0, Way { silent: true, ..Way::default() });
+    thread::scope(|scope| {
+        let ended = scope.spawn(deposit);
+        println!("silent: {}", from.recv().unwrap() == (0, Some(SILENT)));
+        storage.set(0, Way::default());
+        println!("answers: {}", from.recv().unwrap() == (0, None) && is_committed(&ended.join().unwrap()));
+    });
+    println!("by its own thread: {}", (0..100).any(|_| is_own()));
+    storage.set(0, Way { diverges: true, ..Way::default() });
+    println!("diverged: {}", (0..2).all(|_| deposit().is_err_and(|it| it == DIVERGED)));
+}
+
 fn by_threads(path: &Path) {
     let storage = Storage::new();
     let pool = opened(Some(path), &storage, 4, quick());
@@ -204,7 +234,7 @@ fn by_threads(path: &Path) {
         storage.set(dc, Way { losing: true, restarts_each: 53 + 44 * dc as u64, ..Way::default() });
     }
     let (is_over, made) = (AtomicBool::new(false), AtomicU64::new(0));
-    std::thread::scope(|scope| {
+    thread::scope(|scope| {
         let checkpoints = scope.spawn(|| {
             while !is_over.load(SeqCst) {
                 let done = pool.checkpoint(LONG, |dc, incarnation, mark| storage.keep(dc, incarnation, mark));
@@ -245,7 +275,7 @@ fn comes_back(path: &Path) {
         pool.submit(name, &args[..if account < 10 { 2 } else { 1 }], 0, told).unwrap();
     }
     while pool.count().open < 20 {
-        std::thread::yield_now();
+        thread::yield_now();
     }
     let (mut tc, log) = pool.close(Duration::ZERO);
     println!("left open: {}, {} told", tc.open_count(), from.iter().take(20).filter(|it| *it).count());
@@ -280,6 +310,7 @@ fn main() {
     fs::create_dir(&folder).unwrap();
     calls();
     is_silent();
+    goes_itself();
     by_threads(&folder.join("threads.log"));
     comes_back(&folder.join("bank.log"));
     ends();

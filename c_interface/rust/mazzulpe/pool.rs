@@ -116,9 +116,10 @@ const NEW: usize = 2;
 #[derive(Default)]
 struct Queue {
     queues: [VecDeque<Call>; 3],
-    /// Of each thread: it sleeps; it is to look before it sleeps.
+    /// Of each thread: it has nothing to do; it is to look before it sleeps; it waits, since a caller's thread makes its rounds.
     idle: Vec<bool>,
     wanted: Vec<bool>,
+    taken: Vec<bool>,
     calls_at_once: usize,
     /// Admitted and not told; submitted and not told.
     in_use: usize,
@@ -129,6 +130,18 @@ struct Queue {
     draining: bool,
     closing: bool,
     failed: Option<Refusal>,
+}
+
+impl Queue {
+    fn is_queued(&self) -> bool {
+        self.queues.iter().any(|it| !it.is_empty())
+    }
+
+    /// Whether a call that comes now is admitted by its caller's thread: there is a place, none comes first, and a data component may
+    /// be idle.
+    fn may_enter(&self) -> bool {
+        !self.draining && self.in_use < self.calls_at_once && self.in_use <= self.idle.len() && !self.is_queued()
+    }
 }
 
 struct Shared<D: Device> {
@@ -164,7 +177,9 @@ impl<D: Device> Shared<D> {
 
     fn wake(&self, queue: &mut Queue, lane: usize) {
         queue.wanted[lane] = true;
-        self.wanted[lane].notify_one();
+        if !queue.taken[lane] {
+            self.wanted[lane].notify_one();
+        }
     }
 
     /// There is something to be admitted: if there are places, an idle thread looks, or each one before it sleeps.
@@ -216,7 +231,8 @@ impl<D: Device> Shared<D> {
         }
     }
 
-    fn submit(&self, call: Call) -> Result<(), Refusal> {
+    /// Has it queued; where its caller's thread may make its rounds it is handed back.
+    fn submit(&self, call: Call, by_caller: bool) -> Result<Option<Call>, Refusal> {
         let mut queue = self.queue();
         if let Some(failed) = queue.failed {
             return Err(failed);
@@ -224,10 +240,14 @@ impl<D: Device> Shared<D> {
         if queue.closing {
             return Err(NOT_OVER);
         }
-        queue.queues[NEW].push_back(call);
         queue.calls += 1;
+        if by_caller && queue.may_enter() {
+            queue.in_use += 1;
+            return Ok(Some(call));
+        }
+        queue.queues[NEW].push_back(call);
         self.wake_one(&mut queue);
-        Ok(())
+        Ok(None)
     }
 
     /// Nothing is admitted any more, and what is open has ended; not later than this.
@@ -295,7 +315,8 @@ impl<D: Device> Shared<D> {
 
 impl<D: Device + Send + Sync + 'static> Pool<D> {
     /// Takes up what is open, and redoes components that are down. At most `calls_at_once` calls are open together, but for those
-    /// that were open before. `carry` is given wires of one data component, by a thread of each, and says what became of each.
+    /// that were open before. `carry` is given wires of one data component, for each by one thread at a time, and says what became of
+    /// each.
     pub fn open(
         mut tc: Tc,
         log: Option<Log<D>>,
@@ -311,10 +332,11 @@ impl<D: Device + Send + Sync + 'static> Pool<D> {
             return Err(NO_DC);
         }
         let flags = || vec![false; lanes];
-        let queue = Queue { idle: flags(), wanted: flags(), calls_at_once, ..Queue::default() };
+        let queue = Queue { idle: flags(), wanted: flags(), taken: flags(), calls_at_once, ..Queue::default() };
         let state = State {
             tc,
             failed: None,
+            broken: None,
             lanes: (0..lanes).map(|_| Lane::default()).collect(),
             waiters: HashMap::new(),
             busy: None,
@@ -352,10 +374,14 @@ impl<D: Device + Send + Sync + 'static> Pool<D> {
     }
 
     /// Makes a call and waits for its end, however long its data components are away; `values`: of this many access slots it says what
-    /// they held. Never from a function that the pool calls.
+    /// they held. Where a data component is idle this thread carries. Never from a function that the pool calls, nor under a lock that
+    /// `carry` takes.
     pub fn call(&self, procedure: &str, args: &[u64], values: usize) -> Result<Ended, Refusal> {
         let (to, from) = sync_channel(1);
-        self.submit(procedure, args, values, move |ended| to.send(ended).expect("whoever calls waits"))?;
+        let told = move |ended| to.send(ended).expect("whoever calls waits");
+        if let Some(call) = self.shared.submit(Call::new(procedure, args, values, Box::new(told)), true)? {
+            self.shared.own_rounds(call);
+        }
         from.recv().expect("each call is told")
     }
 
@@ -367,7 +393,7 @@ impl<D: Device + Send + Sync + 'static> Pool<D> {
         values: usize,
         told: impl FnOnce(Result<Ended, Refusal>) + Send + 'static,
     ) -> Result<(), Refusal> {
-        self.shared.submit(Call::new(procedure, args, values, Box::new(told)))
+        self.shared.submit(Call::new(procedure, args, values, Box::new(told)), false).map(|_| ())
     }
 
     /// Has the log begin again: what is open ends, `keep` has each data component keep the mark for good, and says whether it does.

@@ -8,6 +8,7 @@ use super::super::{
 use super::{Call, Ended, NEW, PoolCounts, Queue, READY, Shared, URGENT};
 use std::collections::{HashMap, VecDeque};
 use std::mem::take;
+use std::panic::{AssertUnwindSafe, catch_unwind, resume_unwind};
 use std::sync::Arc;
 use std::time::{Duration, Instant};
 
@@ -31,11 +32,15 @@ pub(super) struct Lane {
     /// As `heard` was told; what its news were refused by.
     pub(super) trouble: Option<Refusal>,
     refused: Option<Refusal>,
+    /// What `heard` is to be told.
+    heard: Option<Option<Refusal>>,
 }
 
 pub(super) struct State {
     pub(super) tc: Tc,
     pub(super) failed: Option<Refusal>,
+    /// What a caller's thread met, for one of the pool's to end it by.
+    pub(super) broken: Option<Refusal>,
     pub(super) lanes: Vec<Lane>,
     /// Of each open call: who waits for its end.
     pub(super) waiters: HashMap<u64, VecDeque<Call>>,
@@ -54,6 +59,17 @@ struct Batch {
     carried: Vec<Carried>,
 }
 
+/// A call whose caller's thread makes its rounds: `call` before it is admitted, in `batch` while it is on its way, and `ended`.
+#[derive(Default)]
+struct Own {
+    call: Option<Call>,
+    /// Which it holds.
+    lane: Option<u16>,
+    batch: Batch,
+    ended: Option<(Call, Result<Ended, Refusal>)>,
+    until: u64,
+}
+
 /// What is to be done once the lock is let go.
 struct After {
     ended: Vec<(Call, Result<Ended, Refusal>)>,
@@ -63,6 +79,10 @@ struct After {
 }
 
 impl State {
+    fn going_on(&self) -> Result<(), Refusal> {
+        self.failed.or(self.broken).map_or(Ok(()), Err)
+    }
+
     /// All that are in a list.
     pub(super) fn all(&mut self) -> Vec<Call> {
         let lists = self.lanes.iter_mut().flat_map(|it| [take(&mut it.waiting), take(&mut it.set_aside)]);
@@ -263,7 +283,7 @@ impl State {
     }
 
     /// The rest after a round that nobody answered, and what is to be told of it.
-    fn rests(&mut self, lane: u16, answered: usize, longest: Duration) -> Option<Option<Refusal>> {
+    fn rests(&mut self, lane: u16, answered: usize, longest: Duration) {
         let it = &mut self.lanes[usize::from(lane)];
         let was_silent = it.rest == longest;
         if answered > 0 {
@@ -282,20 +302,14 @@ impl State {
         } else {
             it.trouble
         };
-        let heard = (now != it.trouble).then_some(now);
-        it.trouble = now;
+        if now != it.trouble {
+            (it.trouble, it.heard) = (now, Some(now));
+        }
         self.counts.silent = self.counts.silent + u64::from(is_silent) - u64::from(was_silent);
-        heard
     }
 
     /// All that came of what was carried.
-    fn take_in(
-        &mut self,
-        lane: u16,
-        batch: &mut Batch,
-        queue: &mut Queue,
-        longest: Duration,
-    ) -> Result<Option<Option<Refusal>>, Refusal> {
+    fn take_in(&mut self, lane: u16, batch: &mut Batch, queue: &mut Queue, longest: Duration) -> Result<(), Refusal> {
         let (wires, carried) = (take(&mut batch.wires), take(&mut batch.carried));
         let redoes = batch.calls.is_empty();
         let mut answered = 0;
@@ -307,7 +321,10 @@ impl State {
         if redoes {
             self.counts.redone += answered as u64;
         }
-        Ok(if wires.is_empty() { None } else { self.rests(lane, answered, longest) })
+        if !wires.is_empty() {
+            self.rests(lane, answered, longest);
+        }
+        Ok(())
     }
 
     /// Undos whose rest is over.
@@ -369,6 +386,17 @@ impl State {
     }
 }
 
+impl State {
+    /// Where the call of a caller's thread waits, which alone got on by now: if that has nothing else to do.
+    fn free_lane(&self, queue: &Queue) -> Option<u16> {
+        let at = self.lanes.iter().position(|it| it.is_due)?;
+        let lane = &self.lanes[at];
+        let is_alone = lane.waiting.len() == 1 && lane.waiting[0].wire.is_some();
+        let is_quiet = lane.rest.is_zero() && lane.set_aside.is_empty();
+        (is_alone && is_quiet && queue.idle[at] && !queue.wanted[at]).then_some(at as u16)
+    }
+}
+
 impl<D: Device + Send + Sync + 'static> Shared<D> {
     /// Takes up each call that is open.
     pub(super) fn take_up(shared: &Arc<Shared<D>>) -> Result<(), Refusal> {
@@ -405,26 +433,20 @@ impl<D: Device + Send + Sync + 'static> Shared<D> {
     /// All that is done under the locks.
     fn locked(&self, lane: u16, batch: &mut Batch, after: &mut After) -> Result<(), Refusal> {
         let mut state = self.state();
-        if let Some(failed) = state.failed {
-            return Err(failed);
-        }
+        state.going_on()?;
         let done = {
             let mut queue = self.queue();
             let longest = self.options.longest_rest;
             let done = state
                 .take_in(lane, batch, &mut queue, longest)
-                .map(|heard| after.heard = heard)
                 .and_then(|()| state.undo_again(lane, &mut queue))
                 .and_then(|()| state.admit_all(lane, &mut queue))
                 .and_then(|()| state.choose(lane, batch, &mut queue));
-            for other in 0..state.lanes.len() {
-                if take(&mut state.lanes[other].is_due) && other != usize::from(lane) {
-                    self.wake(&mut queue, other);
-                }
-            }
+            self.wake_due(&mut state, &mut queue, Some(lane));
             done
         };
         let own = &mut state.lanes[usize::from(lane)];
+        after.heard = own.heard.take();
         after.ended = take(&mut own.ended);
         after.wakes = own.set_aside.iter().filter_map(|it| it.due).chain(own.until).min();
         done?;
@@ -434,29 +456,47 @@ impl<D: Device + Send + Sync + 'static> Shared<D> {
         Ok(())
     }
 
-    /// Tells those that ended, whose places are free then.
-    fn tell(&self, ended: Vec<(Call, Result<Ended, Refusal>)>, done: Result<(), Refusal>) {
-        let count = ended.len();
+    /// Those that got wires from this thread, but for the one that it runs.
+    fn wake_due(&self, state: &mut State, queue: &mut Queue, mine: Option<u16>) {
+        for (dc, lane) in state.lanes.iter_mut().enumerate() {
+            if take(&mut lane.is_due) && mine != Some(dc as u16) {
+                self.wake(queue, dc);
+            }
+        }
+    }
+
+    /// Places of calls that were told.
+    fn give_places(&self, queue: &mut Queue, count: usize) {
+        queue.in_use -= count;
+        queue.calls -= count;
+        if (queue.draining && queue.in_use == 0) || (queue.closing && queue.calls == 0) {
+            self.drained.notify_all();
+        }
+    }
+
+    /// Tells those that ended, whose places are free then. If it has nothing to carry it looks itself who wants them; a call that was
+    /// alone leaves the lane free for its caller's next one.
+    fn tell(&self, lane: u16, carries: bool, ended: Vec<(Call, Result<Ended, Refusal>)>, done: Result<(), Refusal>) {
+        let (lane, count) = (usize::from(lane), ended.len());
+        self.queue().idle[lane] = !carries && count == 1 && done.is_ok();
         for (call, how) in ended {
             (call.told)(done.and(how));
         }
         let mut queue = self.queue();
-        queue.in_use -= count;
-        queue.calls -= count;
-        if queue.queues.iter().any(|it| !it.is_empty()) {
+        self.give_places(&mut queue, count);
+        if queue.is_queued() && !carries && !queue.taken[lane] {
+            queue.wanted[lane] = true;
+        } else if queue.is_queued() {
             self.wake_one(&mut queue);
-        }
-        if (queue.draining && queue.in_use == 0) || (queue.closing && queue.calls == 0) {
-            self.drained.notify_all();
         }
     }
 
     fn sleep(&self, lane: u16, until: Option<Instant>) {
         let lane = usize::from(lane);
         let mut queue = self.queue();
-        queue.idle[lane] = true;
-        while !queue.wanted[lane] && until.is_none_or(|it| Instant::now() < it) {
-            queue = match until {
+        queue.idle[lane] = !queue.taken[lane];
+        while queue.taken[lane] || (!queue.wanted[lane] && until.is_none_or(|it| Instant::now() < it)) {
+            queue = match until.filter(|_| !queue.taken[lane]) {
                 None => self.wanted[lane].wait(queue).expect("nobody panics under it"),
                 Some(it) => {
                     let left = it.saturating_duration_since(Instant::now());
@@ -478,7 +518,7 @@ impl<D: Device + Send + Sync + 'static> Shared<D> {
             done = self.stays(after.until);
         }
         if !after.ended.is_empty() {
-            self.tell(after.ended, done);
+            self.tell(lane, !is_idle, after.ended, done);
         }
         done?;
         if is_idle {
@@ -500,6 +540,120 @@ impl<D: Device + Send + Sync + 'static> Shared<D> {
         self.fail(refusal);
         for call in batch.calls {
             (call.told)(Err(refusal));
+        }
+    }
+
+    // ---- rounds by a caller's thread, of its call alone: nothing is handed to another thread where nobody else uses the data component
+
+    /// Admits it, where no other call comes first.
+    fn admit_own(&self, state: &mut State, call: Call, queue: &mut Queue) -> Result<(), Refusal> {
+        state.busy = None;
+        if state.urgent == 0 || state.counts.silent > 0 {
+            return state.admit(0, call, queue);
+        }
+        queue.queues[NEW].push_back(call);
+        queue.in_use -= 1;
+        self.wake_one(queue);
+        Ok(())
+    }
+
+    /// Gives the lane back that it held, and takes the one in which its call waits, if that is free; else the pool's threads go on
+    /// with it.
+    fn change_lanes(&self, state: &mut State, own: &mut Own, queue: &mut Queue) {
+        if let Some(held) = own.lane {
+            self.give_back(queue, held);
+        }
+        let next = state.free_lane(queue);
+        if let Some(held) = own.lane.filter(|it| next != Some(*it)) {
+            let lane = &state.lanes[usize::from(held)];
+            if queue.wanted[usize::from(held)] || !lane.waiting.is_empty() || !lane.set_aside.is_empty() {
+                self.wake(queue, usize::from(held));
+            }
+        }
+        if let Some(lane) = next {
+            (queue.idle[usize::from(lane)], queue.taken[usize::from(lane)]) = (false, true);
+        }
+        if own.ended.is_some() && queue.is_queued() {
+            self.wake_one(queue); // they waited for its end
+        }
+        self.wake_due(state, queue, next);
+        own.lane = next;
+    }
+
+    fn give_back(&self, queue: &mut Queue, lane: u16) {
+        (queue.idle[usize::from(lane)], queue.taken[usize::from(lane)]) = (true, false);
+    }
+
+    /// As `locked`, in the lane that it holds, or none yet.
+    fn own_locked(&self, own: &mut Own) -> Result<(), Refusal> {
+        let (mut guard, longest) = (self.state(), self.options.longest_rest);
+        let state = &mut *guard;
+        state.going_on()?;
+        let mut queue = self.queue();
+        let lane = own.lane.unwrap_or(0);
+        let others = state.lanes[usize::from(lane)].ended.len();
+        let done = match own.call.take() {
+            Some(call) => self.admit_own(state, call, &mut queue),
+            None => state.take_in(lane, &mut own.batch, &mut queue, longest),
+        };
+        own.ended = state.lanes[usize::from(lane)].ended.drain(others..).next();
+        done?;
+        self.change_lanes(state, own, &mut queue);
+        if let Some(lane) = own.lane {
+            let chosen = state.choose(lane, &mut own.batch, &mut queue);
+            own.ended = state.lanes[usize::from(lane)].ended.pop(); // where it was refused
+            chosen?;
+        }
+        if own.lane.is_some() || own.ended.is_some() {
+            own.until = self.written(&mut state.tc)?;
+        }
+        Ok(())
+    }
+
+    /// Has the pool's threads end it.
+    fn breaks(&self, lane: Option<u16>, refusal: Refusal) {
+        let (mut state, mut queue) = (self.state(), self.queue());
+        state.broken.get_or_insert(refusal);
+        if let Some(lane) = lane {
+            self.give_back(&mut queue, lane);
+        }
+        for lane in 0..self.wanted.len() {
+            self.wake(&mut queue, lane);
+        }
+    }
+
+    /// Goes on with a call as far as this thread may, and tells it where it ended.
+    pub(super) fn own_rounds(&self, call: Call) {
+        let mut own = Own { call: Some(call), ..Own::default() };
+        let mut done = self.own_locked(&mut own);
+        while done.is_ok() && own.lane.is_some() {
+            done = self.stays(own.until);
+            if done.is_ok() {
+                let carried = catch_unwind(AssertUnwindSafe(|| (self.carry)(&own.batch.wires)));
+                own.batch.carried = carried.unwrap_or_else(|panic| {
+                    self.breaks(own.lane, NOT_OVER); // nobody waits for ever for this thread
+                    resume_unwind(panic)
+                });
+                done = self.own_locked(&mut own);
+            }
+        }
+        if done.is_ok() && own.ended.is_some() {
+            done = self.stays(own.until);
+        }
+        match done {
+            Err(refusal) => self.breaks(own.lane, refusal),
+            Ok(()) if own.ended.is_some() => {
+                let mut queue = self.queue();
+                self.give_places(&mut queue, 1);
+                if queue.is_queued() {
+                    self.wake_one(&mut queue);
+                }
+            }
+            Ok(()) => {}
+        }
+        let left = own.call.into_iter().chain(own.batch.calls).map(|call| (call, Err(NOT_OVER)));
+        for (call, how) in own.ended.into_iter().chain(left) {
+            (call.told)(done.and(how));
         }
     }
 }
