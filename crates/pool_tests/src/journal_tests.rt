@@ -350,6 +350,7 @@ fn one_keep_for_the_calls_of_a_taking(rt: HostRuntime) {
     is_same(&rt, ending(ran), ("a report", 32));
     is_same(&rt, board.answered(), 8);
     is_same(&rt, gate.in_order.load(Ordering::SeqCst), 8);
+    drop(gate);
     is_same(&rt, board.keeps.load(Ordering::SeqCst), 2);
     drop(board);
 }
