@@ -365,6 +365,13 @@ impl Dc {
         self.row_limit
     }
 
+    /// So many operations may be kept at once: each that is performed under a new number, until the mark is at or above it.
+    pub fn operation_limit(&self) -> usize
+        ensures { result ≡ self.now.ops }
+    {
+        self.op_limit
+    }
+
     /// The low-water mark: numbers at or under it are answered [`Said::Old`].
     pub fn mark(&self) -> u64
         ensures { result ≡ self.now.mark }
