@@ -391,8 +391,8 @@ static inline mz_code mz_log_file_own(const mz_log_file *f) {
     return is.st_ino == there.st_ino && is.st_dev == there.st_dev ? MZ_OK : MZ_LOG_IN_USE;
 }
 
-/* A child of a killed process has its descriptors until it calls exec or ends, and with them its lock: so a file that is in use is tried
- * again for a moment. */
+/* A child of a killed process has its descriptors until it calls exec or ends, and with them its lock: so a file that
+ * is in use is tried again for a moment. */
 static inline mz_code mz_log_file_try(mz_log_file *f) {
     enum { TRIES = 50 };
     const struct timespec rest = {0, 10 * 1000 * 1000};
@@ -505,7 +505,7 @@ static inline mz_code mz_log_come_back(mz_log_file *f, mz_tc *tc, mz_log_found *
 /* Opens the log of a transaction component in which nothing has happened, behind its procedures: comes back from the
  * file, as mz_file_back does, or begins it where it is empty or not there. *found, which may be NULL, says what was there,
  * and is zeros where it wasn't read.
- * Refused: as mz_file_back, the file as it was; MZ_LOG_IN_USE, once half a second is over; MZ_NO_SESSION; MZ_NO_LOG: also where it is no plain
+ * Refused: as mz_file_back, the file as it was; MZ_LOG_IN_USE, after half a second; MZ_NO_SESSION; MZ_NO_LOG: also where it is no plain
  * file; MZ_LOG_FAILED, and MZ_MEMORY: tc may have come back, so begin with another. */
 static inline mz_code mz_log_open(mz_tc *tc, const char *path, mz_log **log, mz_log_found *found) {
     mz_log_found was = {0, 0, 0};

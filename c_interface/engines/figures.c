@@ -2,9 +2,9 @@
  *
  *     figures_NAME OBJECT FOLDER SECONDS TURNS [unsynced]
  *
- * Each way is taken for so many seconds, one after the other, in so many turns, of which the median counts; so it does of ratios, each of
- * which is of one turn. The log is synced before wires go, and what the engine does alone before it is over; or neither. A transfer is one
- * of two accounts of 20,000, at one data component. */
+ * Each way is taken for SECONDS, one after the other, in TURNS turns, of which the median counts, as it does of ratios, each
+ * of one turn. The log is synced before wires go, and what the engine does alone before it is over; or neither. A transfer
+ * is one of two accounts of 20,000, at one data component. */
 #include "alone.h"
 #include "cpu.h"
 #include "mazzulpe_object.h"
@@ -14,8 +14,8 @@
 #include <sys/wait.h>
 
 enum { TURNS = 9, CALLS = 512, THREADS_WITHOUT = 8, TRIES = 3, WIDTHS = 3 };
-/* Rows: mz_run by threads, calls that are submitted, threads in mz_pool_call; then each way of the engine alone, by each number of
- * connections. */
+/* Rows: mz_run by threads, threads in mz_pool_call, calls that are submitted; then each way of the engine alone, by
+ * each number of connections. */
 enum { RUN_1, CALL_1, RUN_8, CALL_8, CALL_64, OPEN_1, OPEN_8, OPEN_64, OPEN_512, ALONE, ROWS = ALONE + 4 * WIDTHS };
 #define OPENED 1000000
 
@@ -295,8 +295,10 @@ static double best_alone(int of_way, int in_turn) {
 static void tell_ratio(int at, int of_row, int of_way, int turns) {
     double ratios[TURNS];
     char of[90];
-    for (int t = 0; t < turns; t++) ratios[t] = rows[at].rate[t] / (of_row < 0 ? best_alone(of_way, t) : rows[of_row].rate[t]);
-    snprintf(of, sizeof of, of_row < 0 ? "%s, at its best" : "%s", of_row < 0 ? alone_ways[of_way].name : rows[of_row].name);
+    for (int t = 0; t < turns; t++)
+        ratios[t] = rows[at].rate[t] / (of_row < 0 ? best_alone(of_way, t) : rows[of_row].rate[t]);
+    if (of_row < 0) snprintf(of, sizeof of, "%s, at its best", alone_ways[of_way].name);
+    else snprintf(of, sizeof of, "%s", rows[of_row].name);
     double middle = median(ratios, turns);
     printf("%-26s of %-44s %5.2f (%.2f to %.2f)\n", rows[at].name, of, middle, ratios[0], ratios[turns - 1]);
 }

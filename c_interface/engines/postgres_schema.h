@@ -109,10 +109,12 @@ static const char schema_of_one[] =
 
 /* What goes on for a batch: its new wires, all of which are performed; */
 static const char schema_of_new[] =
-    /* No two are on one record of which one writes, and nobody else writes meanwhile: all are looked at, and then what writes is done. */
-    "create or replace function mz.perform_new(w_least int8, w_most int8, w_numbers int8[], w_ops int4[], w_tabs int4[], w_keys int8[],"
-    "  w_values bytea[], out saids int4[], out wases bytea[]) language plpgsql as $$ begin"
-    "  select array_agg(case op when 1 then case when r.key is null then 2 else 1 end when 2 then case when r.key is null then 3 else 5 end"
+    /* No two are on one record of which one writes, and nobody else writes meanwhile: all are looked at before any
+     * writes. */
+    "create or replace function mz.perform_new(w_least int8, w_most int8, w_numbers int8[], w_ops int4[],"
+    "  w_tabs int4[], w_keys int8[], w_values bytea[], out saids int4[], out wases bytea[]) language plpgsql as $$ begin"
+    "  select array_agg(case op when 1 then case when r.key is null then 2 else 1 end"
+    "        when 2 then case when r.key is null then 3 else 5 end"
     "        else case when r.key is null then 6 else 4 end end order by place),"
     "      array_agg(case when op = 2 then '' else coalesce(r.value, '') end order by place) into saids, wases"
     "    from unnest(w_ops, w_tabs, w_keys) with ordinality as w(op, tab, key, place)"
@@ -122,11 +124,13 @@ static const char schema_of_new[] =
     "      where w.op = 3 and r.tab = w.tab and r.key = w.key;"
     "  end if;"
     "  if 2 = any (w_ops) then"
-    "    insert into mz.records select w.tab, w.key, w.value from unnest(w_ops, w_tabs, w_keys, w_values) as w(op, tab, key, value)"
-    "      where w.op = 2 on conflict do nothing;"
+    "    insert into mz.records select w.tab, w.key, w.value"
+    "      from unnest(w_ops, w_tabs, w_keys, w_values) as w(op, tab, key, value) where w.op = 2"
+    "      on conflict do nothing;"
     "  end if;"
     "  if 4 = any (w_ops) then"
-    "    delete from mz.records r using unnest(w_ops, w_tabs, w_keys) as w(op, tab, key) where w.op = 4 and r.tab = w.tab and r.key = w.key;"
+    "    delete from mz.records r using unnest(w_ops, w_tabs, w_keys) as w(op, tab, key)"
+    "      where w.op = 4 and r.tab = w.tab and r.key = w.key;"
     "  end if;"
     "  insert into mz.kept values (w_least, w_most, w_numbers, saids, wases);"
     "end $$;";

@@ -9,7 +9,8 @@
 #include "seen.h"
 #include <sys/wait.h>
 
-enum { DCS = 2, CALLS = 12, HALF = 6, MOST_FRAMES = 200, THREADS = 8, TURNS = 50, SYNC = 4000, TRIES = 3, CHILD_LIVES = 100000 };
+enum { DCS = 2, CALLS = 12, HALF = 6, MOST_FRAMES = 200, THREADS = 8, TURNS = 50, SYNC = 4000, TRIES = 3 };
+enum { CHILD_LIVES = 100000 }; /* microseconds */
 
 /* lock: the transaction component's, where threads share it; it is let go while the log is synced. */
 typedef struct { mz_tc *tc; mz_dc *dcs[DCS]; mz_log *log; pthread_mutex_t *lock; } bank;
