@@ -33,6 +33,7 @@
 #include <stdio.h>
 #include <sys/file.h>
 #include <sys/stat.h>
+#include <time.h>
 #include <unistd.h>
 
 #ifdef __cplusplus
@@ -390,15 +391,29 @@ static inline mz_code mz_log_file_own(const mz_log_file *f) {
     return is.st_ino == there.st_ino && is.st_dev == there.st_dev ? MZ_OK : MZ_LOG_IN_USE;
 }
 
+/* A child of a killed process has its descriptors until it calls exec or ends, and with them its lock: so a file that
+ * is in use is tried again for a moment. */
+static inline mz_code mz_log_file_try(mz_log_file *f) {
+    enum { TRIES = 50 };
+    const struct timespec rest = {0, 10 * 1000 * 1000};
+    mz_code c = MZ_LOG_IN_USE;
+    for (int tries = 0; tries < TRIES && c == MZ_LOG_IN_USE; tries++) {
+        if (tries) nanosleep(&rest, NULL);
+        if (f->file >= 0) close(f->file);
+        f->file = open(f->path, O_RDWR | O_CREAT | O_APPEND | O_CLOEXEC | O_NONBLOCK, 0644);
+        c = f->file < 0 ? MZ_LOG_FAILED : mz_log_file_own(f);
+    }
+    return c;
+}
+
 /* A file that nobody else has; MZ_MEMORY, MZ_LOG_IN_USE, MZ_NO_LOG, MZ_LOG_FAILED. */
 static inline mz_code mz_log_file_open(const char *path, mz_log_file **file) {
     mz_log_file *f = (mz_log_file *)calloc(1, sizeof *f);
     if (!f) return MZ_MEMORY;
     f->path = strdup(path);
     f->beside = (char *)malloc(strlen(path) + 16);
-    f->file = f->path && f->beside ? open(path, O_RDWR | O_CREAT | O_APPEND | O_CLOEXEC | O_NONBLOCK, 0644) : -1;
-    mz_code c = !f->path || !f->beside ? MZ_MEMORY : f->file < 0 ? MZ_LOG_FAILED : MZ_OK;
-    if (c == MZ_OK) c = mz_log_file_own(f);
+    f->file = -1;
+    mz_code c = f->path && f->beside ? mz_log_file_try(f) : MZ_MEMORY;
     if (c == MZ_OK) *file = f;
     else mz_log_file_close(f);
     return c;
@@ -490,7 +505,7 @@ static inline mz_code mz_log_come_back(mz_log_file *f, mz_tc *tc, mz_log_found *
 /* Opens the log of a transaction component in which nothing has happened, behind its procedures: comes back from the
  * file, as mz_file_back does, or begins it where it is empty or not there. *found, which may be NULL, says what was there,
  * and is zeros where it wasn't read.
- * Refused: as mz_file_back, the file as it was; MZ_LOG_IN_USE, MZ_NO_SESSION; MZ_NO_LOG: also where it is no plain
+ * Refused: as mz_file_back, the file as it was; MZ_LOG_IN_USE, after half a second; MZ_NO_SESSION; MZ_NO_LOG: also where it is no plain
  * file; MZ_LOG_FAILED, and MZ_MEMORY: tc may have come back, so begin with another. */
 static inline mz_code mz_log_open(mz_tc *tc, const char *path, mz_log **log, mz_log_found *found) {
     mz_log_found was = {0, 0, 0};

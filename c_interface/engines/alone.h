@@ -5,7 +5,9 @@
 
 #include <stdint.h>
 
-enum { ACCOUNTS = 2000 };
+#define ACCOUNTS 20000
+#define ALONE_TEXT_OF(number) #number
+#define ALONE_TEXT(number) ALONE_TEXT_OF(number) /* as a part of SQL */
 
 typedef struct {
     const char *name;

@@ -6,10 +6,10 @@
 
 enum { TOGETHER = 100 }; /* accounts that are made in one transaction */
 
-/* An account is the key a/NNNN, with its balance as a number in text. */
+/* An account is the key a/NNNNN, with its balance as a number in text. */
 static const char *key_of(char to[ETCD_TEXT], uint64_t account) {
     char text[24];
-    return etcd_coded(to, text, (size_t)snprintf(text, sizeof text, "a/%04llu", (unsigned long long)account));
+    return etcd_coded(to, text, (size_t)snprintf(text, sizeof text, "a/%05llu", (unsigned long long)account));
 }
 
 static const char *balance_of(char to[ETCD_TEXT], uint64_t balance) {

@@ -5,7 +5,7 @@
 
 static const char tables[] =
     "drop table if exists account; create table account (key int8 primary key, balance int8 not null) with (fillfactor = 70);"
-    "insert into account select i, 1000000 from generate_series(0, 1999) i;"
+    "insert into account select i - 1, 1000000 from generate_series(1, " ALONE_TEXT(ACCOUNTS) ") i;"
     "create or replace function move(source int8, target int8) returns void language plpgsql as $$ declare had int8; begin"
     "  select balance into had from account where key = source for update;"
     "  perform 1 from account where key = target for update;"

@@ -29,7 +29,8 @@ static int begin(const char *folder, int synced) {
     sqlite3 *db = opened(folder, synced);
     int ok = db && sqlite3_exec(db,
         "drop table if exists account; create table account (key integer primary key, balance integer not null);"
-        "with recursive n(i) as (select 0 union all select i + 1 from n where i < 1999) insert into account select i, 1000000 from n",
+        "with recursive n(i) as (select 0 union all select i + 1 from n where i < " ALONE_TEXT(ACCOUNTS) " - 1)"
+        "insert into account select i, 1000000 from n",
         NULL, NULL, NULL) == SQLITE_OK;
     sqlite3_close(db);
     return ok;

@@ -3,12 +3,15 @@
 #include "mazzulpe_pool.h"
 #include "prometheus.h"
 #include "storage.h"
+#include <semaphore.h>
 
-/* EVENTS: of a transfer. */
-enum { TARGETS = 20, OPENING = 1 << 30, EVENTS = 10, PATIENCE = 60000, CALLS_AT_ONCE = 64 };
+/* EVENTS: of a transfer. Accounts at data component 1 are as many as threads, and these at least. */
+enum { LEAST_TARGETS = 20, OPENING = 1 << 30, EVENTS = 10, PATIENCE = 60000 };
 enum { DEPOSIT_HERE, DEPOSIT_THERE, MOVE, TOUCH, BALANCES };
 
 static const char *const names[] = {"deposit_here", "deposit_there", "move", "touch", "balances"};
+
+typedef struct { mz_slot_value at[DCS]; } account;
 
 typedef struct {
     const plan *plan;
@@ -18,6 +21,9 @@ typedef struct {
     char log_path[512], metrics_path[512]; /* metrics: as Prometheus' text, of each checkpoint and of the end */
     uint64_t done;
     int is_anew; /* a checkpoint is being made */
+    uint64_t targets;
+    sem_t ended;               /* calls that were submitted */
+    account accounts[THREADS]; /* as they were looked at last */
 } client;
 
 typedef struct { client *client; uint64_t number; } worker;
@@ -120,13 +126,35 @@ static mz_outcome call(client *e, int which, const uint64_t *args, size_t count,
     return receipt.outcome;
 }
 
-/* What is in an account, by a call; 0 where there is none. Account 0 of data component 0 is the first that is opened. */
-static int is_there(client *e, uint16_t dc, uint64_t account, uint64_t *balance) {
-    const uint64_t args[] = {dc ? 0 : account, dc ? account : 0};
-    mz_slot_value held[DCS];
-    call(e, BALANCES, args, 2, held, DCS);
-    *balance = held[dc].there ? mz_little(held[dc].value, 8) : 0;
-    return held[dc].there;
+static void count_ended(void *context, mz_code code, const mz_receipt *receipt) {
+    client *e = (client *)context;
+    (void)receipt;
+    if (code != MZ_OK) end_call(e, "a call", code);
+    sem_post(&e->ended);
+}
+
+static void submit(client *e, int which, uint64_t first, uint64_t second, account *held) {
+    const uint64_t args[] = {first, second};
+    mz_code c = mz_pool_submit(e->pool, names[which], args, 2, held ? held->at : NULL, held ? DCS : 0, count_ended, e);
+    if (c != MZ_OK) end_call(e, names[which], c);
+}
+
+static void await(client *e, uint64_t calls) {
+    while (calls) calls -= sem_wait(&e->ended) == 0;
+    if (e->plan->unwritten && !is_put_out()) end_if_refused(e, MZ_LOG_FAILED);
+}
+
+/* Looks at all accounts, by calls that are open together. */
+static void look(client *e) {
+    for (uint64_t a = 0; a < e->targets; a++) submit(e, BALANCES, a, a, &e->accounts[a]);
+    await(e, e->targets);
+}
+
+/* What was in an account; 0 where there is none. */
+static int is_there(const client *e, uint16_t dc, uint64_t account, uint64_t *balance) {
+    const mz_slot_value *held = &e->accounts[account].at[dc];
+    *balance = held->there ? mz_little(held->value, 8) : 0;
+    return held->there;
 }
 
 /* ---- checkpoints */
@@ -178,7 +206,7 @@ static void *transfers(void *context) {
     client *e = w->client;
     seen *s = e->plan->seen;
     for (uint64_t turn = s->told[w->number]; !s->last || __atomic_load_n(&e->done, __ATOMIC_SEQ_CST) < e->plan->transfers; turn++) {
-        const uint64_t args[] = {w->number, (turn * 7919 + w->number) % TARGETS, 1};
+        const uint64_t args[] = {w->number, (turn * 7919 + w->number) % e->targets, 1};
         if (call(e, MOVE, args, 3, NULL, 0) != MZ_COMMITTED) die("a transfer", MZ_OK);
         __atomic_add_fetch(&s->told[w->number], 1, __ATOMIC_SEQ_CST);
         if (e->plan->home) e->plan->home->tells();
@@ -193,11 +221,13 @@ static void *transfers(void *context) {
 
 /* Those that no earlier life has opened. */
 static void open_accounts(client *e) {
-    uint64_t balance;
+    uint64_t balance, opened = 0;
+    look(e);
     for (uint64_t a = 0; a < e->plan->threads; a++)
-        if (!is_there(e, 0, a, &balance)) call(e, DEPOSIT_HERE, (uint64_t[]){a, OPENING}, 2, NULL, 0);
-    for (uint64_t a = 0; a < TARGETS; a++)
-        if (!is_there(e, 1, a, &balance)) call(e, DEPOSIT_THERE, (uint64_t[]){a, 0}, 2, NULL, 0);
+        if (!is_there(e, 0, a, &balance)) submit(e, DEPOSIT_HERE, a, OPENING, NULL), opened++;
+    for (uint64_t a = 0; a < e->targets; a++)
+        if (!is_there(e, 1, a, &balance)) submit(e, DEPOSIT_THERE, a, 0, NULL), opened++;
+    await(e, opened);
     e->plan->seen->opened = 1;
 }
 
@@ -211,7 +241,7 @@ static void come_back(client *e) {
     if (c != MZ_OK) die(home ? "the log" : e->log_path, c);
     if (!storage_open(e->plan->folder, mz_session(e->tc))) die(e->plan->folder, MZ_MEMORY);
     if (e->plan->unwritten) hold_back(e->log);
-    c = mz_pool_open(e->tc, e->log, carry, e, CALLS_AT_ONCE, &options, &e->pool);
+    c = mz_pool_open(e->tc, e->log, carry, e, e->plan->threads, &options, &e->pool);
     if (c == MZ_OK) c = mz_pool_come_back(e->pool, &count);
     if (c != MZ_OK) end_call(e, "an open transaction", c);
     e->plan->seen->came_back += count;
@@ -223,6 +253,7 @@ static void come_back(client *e) {
 static int is_right(client *e, uint64_t untold) {
     uint64_t sum = 0, balance = 0;
     seen *s = e->plan->seen;
+    look(e);
     for (uint64_t t = 0; t < e->plan->threads; t++) {
         if (!is_there(e, 0, t, &balance) || balance > OPENING) return 0;
         uint64_t made = OPENING - balance;
@@ -230,13 +261,13 @@ static int is_right(client *e, uint64_t untold) {
         if (!e->plan->home) s->told[t] = made;
         sum += balance;
     }
-    for (uint64_t a = 0; a < TARGETS; a++) sum += is_there(e, 1, a, &balance) ? balance : 0;
+    for (uint64_t a = 0; a < e->targets; a++) sum += is_there(e, 1, a, &balance) ? balance : 0;
     return sum == e->plan->threads * OPENING;
 }
 
 /* What the log says was written last: of an account at each data component. */
 typedef struct { int is_there; uint64_t balance; } row;
-typedef struct { row at[DCS][TARGETS + THREADS]; } rows;
+typedef struct { row at[DCS][THREADS]; } rows;
 
 static void write_row(rows *all, const mz_event *asked) {
     row *r = &all->at[asked->record.dc][asked->record.key];
@@ -264,8 +295,9 @@ static int is_as_replayed(client *e) {
     int is_whole = is_replayed(e, &all);
     mz_pool_unlock(e->pool);
     if (!is_whole) return 1;
+    look(e);
     for (uint16_t d = 0; d < DCS; d++)
-        for (uint64_t a = 0; a < (d ? TARGETS : e->plan->threads); a++) {
+        for (uint64_t a = 0; a < (d ? e->targets : e->plan->threads); a++) {
             uint64_t balance;
             const row *r = &all.at[d][a];
             if (is_there(e, d, a, &balance) != r->is_there || (r->is_there && balance != r->balance)) return 0;
@@ -276,6 +308,8 @@ static int is_as_replayed(client *e) {
 static void loaded(client *e, const plan *p) {
     mz_code c;
     e->plan = p;
+    e->targets = p->threads < LEAST_TARGETS ? LEAST_TARGETS : p->threads;
+    if (sem_init(&e->ended, 0, 0)) die("a semaphore", MZ_MEMORY);
     e->tc = mz_tc_new(DCS, &c);
     if (!e->tc) die("mz_tc_new", c);
     snprintf(e->log_path, sizeof e->log_path, "%s/log", p->folder);

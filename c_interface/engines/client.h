@@ -8,7 +8,7 @@
 
 #include "mazzulpe_log.h"
 
-enum { THREADS = 64, SUPERSEDED = 7 };
+enum { THREADS = 512, SUPERSEDED = 7 };
 
 /* What lives of a client and their parent share. */
 typedef struct {

@@ -2,8 +2,9 @@
  *
  *     figures_NAME OBJECT FOLDER SECONDS TURNS [unsynced]
  *
- * Each way is taken for so many seconds, one after the other, in so many turns, of which the median counts. The log is synced before wires go,
- * and what the engine does alone before it is over; or neither. A transfer is one of two accounts of 2,000, at one data component. */
+ * Each way is taken for SECONDS, one after the other, in TURNS turns, of which the median counts, as it does of ratios, each
+ * of one turn. The log is synced before wires go, and what the engine does alone before it is over; or neither. A transfer
+ * is one of two accounts of 20,000, at one data component. */
 #include "alone.h"
 #include "cpu.h"
 #include "mazzulpe_object.h"
@@ -12,7 +13,10 @@
 #include <sys/resource.h>
 #include <sys/wait.h>
 
-enum { TURNS = 9, ROWS = 16, CALLS = 1024, THREADS_TODAY = 8, TRIES = 3 };
+enum { TURNS = 9, CALLS = 512, THREADS_WITHOUT = 8, TRIES = 3, WIDTHS = 3 };
+/* Rows: mz_run by threads, threads in mz_pool_call, calls that are submitted; then each way of the engine alone, by
+ * each number of connections. */
+enum { RUN_1, CALL_1, RUN_8, CALL_8, CALL_64, OPEN_1, OPEN_8, OPEN_64, OPEN_512, ALONE, ROWS = ALONE + 4 * WIDTHS };
 #define OPENED 1000000
 
 /* Of a way, in each turn: transfers a second, and microseconds of processors a transfer, of the servers and of this process. */
@@ -20,6 +24,7 @@ typedef struct { char name[80]; double rate[TURNS], servers[TURNS], own[TURNS]; 
 
 static row rows[ROWS];
 static int turn, row_count, synced;
+static const int widths[WIDTHS] = {1, 8, 64};
 static double seconds;
 static const char *folder;
 static mz_tc *tc;
@@ -54,8 +59,9 @@ static void drawn(unsigned *seed, uint64_t args[3]) {
 }
 
 /* Sleeps while a way goes on, and notes what it did. */
-static void measured(const char *name) {
-    row *r = &rows[row_count++];
+static void measured(int at, const char *name) {
+    row *r = &rows[at];
+    if (at >= row_count) row_count = at + 1;
     snprintf(r->name, sizeof r->name, "%s", name);
     double servers = cpu_below(getppid(), getpid()), own = own_cpu(), began = now();
     uint64_t before = ended;
@@ -101,15 +107,18 @@ static void close_pool(void) {
     mz_pool_close(pool, 10000);
 }
 
-static void by_calls(size_t calls) {
+static void by_calls(int row, size_t calls) {
     static unsigned seeds[CALLS];
     char name[80];
     snprintf(name, sizeof name, "pool, %zu calls open", calls);
     open_pool(calls);
     is_over = 0;
     open_calls = calls;
-    for (size_t i = 0; i < calls; i++) submit(&seeds[i]);
-    measured(name);
+    for (size_t i = 0; i < calls; i++) {
+        seeds[i] = (unsigned)i + 1;
+        submit(&seeds[i]);
+    }
+    measured(row, name);
     is_over = 1;
     while (open_calls) usleep(1000);
     close_pool();
@@ -169,25 +178,32 @@ static void *calls_alone(void *context) {
     return NULL;
 }
 
-static void by_threads(const char *name, int count, void *(*goes)(void *)) {
+static void by_threads(int row, const char *name, int count, void *(*goes)(void *)) {
     pthread_t threads[CALLS];
     is_over = 0;
     for (int i = 0; i < count; i++)
         if (pthread_create(&threads[i], NULL, goes, (void *)(size_t)(i + 1))) fail("a thread", MZ_OK);
-    measured(name);
+    measured(row, name);
     is_over = 1;
     for (int i = 0; i < count; i++) pthread_join(threads[i], NULL);
 }
 
-static void over_engine(void) {
-    by_threads("mz_run, 1 thread", 1, calls_alone);
-    by_threads("mz_run, 8 threads", THREADS_TODAY, calls_alone);
-    for (size_t calls = 1; calls <= 512; calls *= 8) by_calls(calls);
-    open_pool(64);
-    by_threads("mz_pool_call, 1 thread", 1, calls_pool);
-    by_threads("mz_pool_call, 8 threads", THREADS_TODAY, calls_pool);
-    by_threads("mz_pool_call, 64 threads", 64, calls_pool);
+static void by_callers(int row, const char *name, int count) {
+    open_pool(CALLS);
+    by_threads(row, name, count, calls_pool);
     close_pool();
+}
+
+static void over_engine(void) {
+    by_threads(RUN_1, "mz_run, 1 thread", 1, calls_alone);
+    by_callers(CALL_1, "mz_pool_call, 1 thread", 1);
+    by_threads(RUN_8, "mz_run, 8 threads", THREADS_WITHOUT, calls_alone);
+    by_callers(CALL_8, "mz_pool_call, 8 threads", 8);
+    by_callers(CALL_64, "mz_pool_call, 64 threads", 64);
+    by_calls(OPEN_1, 1);
+    by_calls(OPEN_8, 8);
+    by_calls(OPEN_64, 64);
+    by_calls(OPEN_512, 512);
 }
 
 /* ---- the engine alone */
@@ -211,20 +227,20 @@ static void *transfers(void *context) {
 static void engine_alone(void) {
     char name[80];
     for (way = alone_ways; way->name; way++)
-        for (int connections = 1; connections <= 64; connections *= 8) {
+        for (int w = 0; w < WIDTHS; w++) {
             if (!way->begin(folder, synced)) fail(way->name, MZ_OK);
-            snprintf(name, sizeof name, "%s, by %d", way->name, connections);
-            by_threads(name, connections, transfers);
+            snprintf(name, sizeof name, "%s, by %d", way->name, widths[w]);
+            by_threads(ALONE + (int)(way - alone_ways) * WIDTHS + w, name, widths[w], transfers);
         }
 }
 
 /* ---- one run */
 
-static _Atomic uint64_t sum;
+static uint64_t sum;
 
 static void deposited(void *context, mz_code code, const mz_receipt *receipt) {
     (void)context;
-    if (code != MZ_OK || receipt->outcome != MZ_COMMITTED) fail("a deposit", code);
+    if (code != MZ_OK || receipt->outcome != MZ_COMMITTED) fail("a call", code);
     ended++;
 }
 
@@ -241,15 +257,17 @@ static void open_accounts(void) {
 }
 
 static void looked_at_sum(void) {
-    open_pool(1);
+    static mz_slot_value held[ACCOUNTS];
+    uint64_t before = ended;
+    open_pool(CALLS);
     for (uint64_t a = 0; a < ACCOUNTS; a++) {
         const uint64_t args[] = {a, 0};
-        mz_slot_value value = {0, {0}};
-        mz_receipt receipt;
-        if (mz_pool_call(pool, "balances", args, 2, &value, 1, &receipt) != MZ_OK) fail("balances", MZ_OK);
-        sum += mz_little(value.value, 8);
+        mz_code c = mz_pool_submit(pool, "balances", args, 2, &held[a], 1, deposited, NULL);
+        if (c != MZ_OK) fail("balances", c);
     }
+    while (ended < before + ACCOUNTS) usleep(1000);
     close_pool();
+    for (int a = 0; a < ACCOUNTS; a++) sum += mz_little(held[a].value, 8);
     if (sum != (uint64_t)ACCOUNTS * OPENED) fail("the sum of all accounts", MZ_OK);
 }
 
@@ -263,6 +281,37 @@ static double median(double *of, int count) {
     return of[count / 2];
 }
 
+/* The greatest rate of a turn of the engine alone in this way. */
+static double best_alone(int of_way, int in_turn) {
+    double best = 0;
+    for (int w = 0; w < WIDTHS; w++) {
+        double rate = rows[ALONE + of_way * WIDTHS + w].rate[in_turn];
+        if (rate > best) best = rate;
+    }
+    return best;
+}
+
+/* Of a row to another's, or to the best of the engine alone in a way. */
+static void tell_ratio(int at, int of_row, int of_way, int turns) {
+    double ratios[TURNS];
+    char of[90];
+    for (int t = 0; t < turns; t++)
+        ratios[t] = rows[at].rate[t] / (of_row < 0 ? best_alone(of_way, t) : rows[of_row].rate[t]);
+    if (of_row < 0) snprintf(of, sizeof of, "%s, at its best", alone_ways[of_way].name);
+    else snprintf(of, sizeof of, "%s", rows[of_row].name);
+    double middle = median(ratios, turns);
+    printf("%-26s of %-44s %5.2f (%.2f to %.2f)\n", rows[at].name, of, middle, ratios[0], ratios[turns - 1]);
+}
+
+static void tell_ratios(int turns) {
+    for (int w = 0; alone_ways[w].name; w++) {
+        tell_ratio(OPEN_64, -1, w, turns);
+        tell_ratio(OPEN_512, -1, w, turns);
+    }
+    tell_ratio(CALL_64, RUN_8, 0, turns);
+    tell_ratio(CALL_1, RUN_1, 0, turns);
+}
+
 static void run(const char *object, int turns) {
     char path[400];
     mz_log_found found;
@@ -274,11 +323,11 @@ static void run(const char *object, int turns) {
     if (c != MZ_OK || !storage_open(folder, mz_session(tc))) fail("it can't begin", c);
     open_accounts();
     for (turn = 0; turn < turns; turn++) {
-        row_count = 0;
         over_engine();
         engine_alone();
     }
     looked_at_sum();
+    tell_ratios(turns);
     printf("%-32s %12s %22s\n", synced ? "synced" : "not synced", "a second", "CPU us: servers + own");
     for (int i = 0; i < row_count; i++)
         printf("%-32s %12.0f %14.0f + %.0f\n", rows[i].name, median(rows[i].rate, turns), median(rows[i].servers, turns), median(rows[i].own, turns));

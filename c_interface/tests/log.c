@@ -7,8 +7,10 @@
 #include "mazzulpe_log.h"
 #include "mazzulpe_object.h"
 #include "seen.h"
+#include <sys/wait.h>
 
 enum { DCS = 2, CALLS = 12, HALF = 6, MOST_FRAMES = 200, THREADS = 8, TURNS = 50, SYNC = 4000, TRIES = 3 };
+enum { CHILD_LIVES = 100000 }; /* microseconds */
 
 /* lock: the transaction component's, where threads share it; it is let go while the log is synced. */
 typedef struct { mz_tc *tc; mz_dc *dcs[DCS]; mz_log *log; pthread_mutex_t *lock; } bank;
@@ -291,6 +293,23 @@ static void not_opened(const content *whole) {
     mz_tc_free(empty);
 }
 
+/* A child that was forked before has the lock for a moment. */
+static void is_waited_for(void) {
+    mz_tc *tc = started(), *again = started();
+    mz_log *log;
+    SEEN(mz_log_open(tc, path, &log, NULL) == MZ_OK);
+    pid_t child = fork();
+    if (child == 0) {
+        usleep(CHILD_LIVES);
+        _exit(0);
+    }
+    mz_log_close(log);
+    SEEN(mz_log_open(again, path, &log, NULL) == MZ_OK && waitpid(child, NULL, 0) == child);
+    mz_log_close(log);
+    mz_tc_free(tc);
+    mz_tc_free(again);
+}
+
 /* ---- devices: of memory, that fail at their nth call, and whose syncs are counted */
 
 typedef struct { long calls, fails_at, syncs; size_t kept; long wait, inside; } device;
@@ -561,6 +580,7 @@ int main(int count, char **words) {
     }
     sessions_set();
     not_opened(&whole);
+    is_waited_for();
     device_that_fails();
     gathered();
     succession();

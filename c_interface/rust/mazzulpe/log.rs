@@ -14,6 +14,8 @@ use std::os::unix::fs::MetadataExt;
 use std::path::{Path, PathBuf};
 use std::sync::atomic::{AtomicBool, Ordering::SeqCst};
 use std::sync::{Arc, Condvar, Mutex, MutexGuard};
+use std::thread::sleep;
+use std::time::Duration;
 
 /// Where so many are gathered the device gets them.
 const MOST: usize = 1 << 20;
@@ -317,7 +319,19 @@ fn cut(path: &Path, file: &File, bytes: &[u8], whole: usize) -> io::Result<()> {
 }
 
 impl LogFile {
+    /// A child of a killed process has its descriptors until it calls exec or ends, and with them its lock: so a file
+    /// that is in use is tried again for half a second.
     fn open(path: &Path) -> Result<File, LogError> {
+        for _ in 1..50 {
+            match Self::open_now(path) {
+                Err(LogError::Refused(LOG_IN_USE, _)) => sleep(Duration::from_millis(10)),
+                opened => return opened,
+            }
+        }
+        Self::open_now(path)
+    }
+
+    fn open_now(path: &Path) -> Result<File, LogError> {
         // (a FIFO, a folder or a device isn't opened)
         if std::fs::metadata(path).is_ok_and(|it| !it.is_file()) {
             return Err(NO_LOG.into());
