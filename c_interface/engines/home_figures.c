@@ -2,12 +2,12 @@
  * in a local file, which is synced; one after the other, without faults:
  *
  *     home_figures OBJECT FOLDER THREADS SECONDS */
+#include "client.h"
 #include "home.h"
 #include "killed.h"
+#include "processes.h"
 #include "storage.h"
-#include "client.h"
-#include <string.h>
-#include <sys/prctl.h>
+#include <sys/stat.h>
 
 enum { SILENCE = 400, WARM = 1, OPENS_WITHIN = 60, BETWEEN = 2000 };
 
