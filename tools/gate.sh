@@ -96,7 +96,7 @@ tries() {
         if [ -n "$unproved" ]; then
             echo "make -s -C out-unproved/c_interface check RATTLE_ARCHIVE=../lib/libmazzulpe.a"
         else
-            echo "make -s -C c_interface engines FAULTS=4 SILENCE=1000"
+            echo "make -s -C c_interface engines FAULTS=4 SILENCE=1000 PROCD=$(tools/built.py procd)"
         fi
         echo "tools/try_dist.py $unproved"
     fi
