@@ -144,8 +144,8 @@ static void await(client *e, uint64_t calls) {
     if (e->plan->unwritten && !is_put_out()) end_if_refused(e, MZ_LOG_FAILED);
 }
 
-/* Looks at all accounts, by calls that are open together. Where data component 0 has none, account 0 is looked at there:
- * a call that finds nothing there looks no further. */
+/* Looks at all accounts, by calls that are open together. Where data component 0 has none, account 0 is looked at
+ * there: a call that finds nothing there looks no further. */
 static void look(client *e) {
     for (uint64_t a = 0; a < e->targets; a++) submit(e, BALANCES, a < e->plan->threads ? a : 0, a, &e->accounts[a]);
     await(e, e->targets);

@@ -95,9 +95,9 @@ static const char has_standbys[] = "select count(*) from pg_stat_replication whe
 static void say_where(int is_promoted) {
     static const char begins[] = "user=postgres dbname=postgres target_session_attrs=read-write";
     const char *at = at_folder;
-    if (is_promoted) snprintf(words, sizeof words, "%s host=%s,%s port=%d,%d", begins, at, at, FIRST_PORT + 1, FIRST_PORT + 2);
-    else snprintf(words, sizeof words, "%s host=%s,%s,%s port=%d,%d,%d", begins, at, at, at, FIRST_PORT, FIRST_PORT + 1,
-                  FIRST_PORT + 2);
+    const int one = FIRST_PORT, two = FIRST_PORT + 1, three = FIRST_PORT + 2;
+    if (is_promoted) snprintf(words, sizeof words, "%s host=%s,%s port=%d,%d", begins, at, at, two, three);
+    else snprintf(words, sizeof words, "%s host=%s,%s,%s port=%d,%d,%d", begins, at, at, at, one, two, three);
 }
 
 int home_begin(const char *folder) {
