@@ -90,10 +90,14 @@ compile() {
     took "what is compiled"
 }
 
-# What is tried of the programs, a command a line; the longest stand first.
+# What is tried of the programs, a command a line; the longest stand first. `engines` leaves out what has no server.
 tries() {
     if [ -z "$missing" ]; then
-        [ -z "$unproved" ] || echo "make -s -C out-unproved/c_interface check RATTLE_ARCHIVE=../lib/libmazzulpe.a"
+        if [ -n "$unproved" ]; then
+            echo "make -s -C out-unproved/c_interface check RATTLE_ARCHIVE=../lib/libmazzulpe.a"
+        else
+            echo "make -s -C c_interface engines FAULTS=4 SILENCE=1000 PROCD=$(tools/built.py procd)"
+        fi
         echo "tools/try_dist.py $unproved"
     fi
     echo "tools/readme.py $unproved"

@@ -1,6 +1,7 @@
 #!/bin/sh
-# check_failover.sh HOME FAULTS [KINDS]: nodes that take over from one another over this home of their log (build/failover_HOME), with so many
-# faults; then the controls, which have to be seen to lose.
+# check_failover.sh HOME FAULTS [KINDS]: nodes that take over from one another over this home of their log
+# (build/failover_HOME), with so many faults; if PROCD is set, the same with a log that is never cut, and an audit of it
+# by `$PROCD log --audit`; then the controls, which have to be seen to lose.
 set -e
 until_lost=60
 name=$1
@@ -28,6 +29,14 @@ if ! nodes failover "$faults" "$kinds"; then
     exit 1
 fi
 echo "$name: $(cat "$folder/said")"
+if [ -n "$PROCD" ]; then
+    if ! nodes failover "$faults" "$kinds" uncut ||
+        ! "$PROCD" log --audit "$own/log" build/bank.o engines/audited.txt > "$folder/audit"; then
+        echo "$name, never cut: LOST: $(cat "$folder/said" "$folder/faults" "$folder/audit")"
+        exit 1
+    fi
+    echo "$name, never cut: $(cat "$folder/said") $(grep '^audit' "$folder/audit")"
+fi
 
 # loses WHAT PROGRAM KINDS [CONTROL]
 loses() {

@@ -144,9 +144,10 @@ static void await(client *e, uint64_t calls) {
     if (e->plan->unwritten && !is_put_out()) end_if_refused(e, MZ_LOG_FAILED);
 }
 
-/* Looks at all accounts, by calls that are open together. */
+/* Looks at all accounts, by calls that are open together. Where data component 0 has none, account 0 is looked at
+ * there: a call that finds nothing there looks no further. */
 static void look(client *e) {
-    for (uint64_t a = 0; a < e->targets; a++) submit(e, BALANCES, a, a, &e->accounts[a]);
+    for (uint64_t a = 0; a < e->targets; a++) submit(e, BALANCES, a < e->plan->threads ? a : 0, a, &e->accounts[a]);
     await(e, e->targets);
 }
 
@@ -157,14 +158,80 @@ static int is_there(const client *e, uint16_t dc, uint64_t account, uint64_t *ba
     return held->there;
 }
 
+/* ---- what the log says was written last: of an account at each data component */
+
+typedef struct { int is_there; uint64_t balance; } row;
+typedef struct { row at[DCS][THREADS]; } rows;
+
+static void write_row(rows *all, const mz_event *asked) {
+    row *r = &all->at[asked->record.dc][asked->record.key];
+    r->is_there = asked->op != MZ_DELETE;
+    r->balance = mz_little(asked->value, 8);
+}
+
+/* A log that begins anew doesn't say what was written before: a file does, under the last number that was given out
+ * by then. */
+static void base_path(const client *e, uint64_t number, int writer, char path[600]) {
+    int length = snprintf(path, 600, "%s/base.%llu", e->plan->folder, (unsigned long long)number);
+    if (writer) snprintf(path + length, 600 - (size_t)length, ".%d", writer);
+}
+
+static int is_base_read(const client *e, uint64_t number, rows *all) {
+    char path[600];
+    base_path(e, number, 0, path);
+    FILE *f = fopen(path, "rb");
+    int is_read = f && fread(all, sizeof *all, 1, f) == 1;
+    if (f) fclose(f);
+    return is_read;
+}
+
+/* Each balance that the whole log says, with what was cut off. 0: there is no memory, or no base of it. */
+static int is_replayed(const client *e, rows *all) {
+    mz_event event, *asked = (mz_event *)calloc(mz_last_number(e->tc) + 1, sizeof *asked);
+    int is_whole = asked != NULL;
+    memset(all, 0, sizeof *all);
+    for (uint64_t i = 0; is_whole && mz_log_at(e->tc, i, &event) == MZ_OK; i++) {
+        if (event.kind == MZ_EVENT_CHECKPOINT) is_whole = is_base_read(e, event.number, all);
+        if (event.kind == MZ_EVENT_ASK || event.kind == MZ_EVENT_UNDO) asked[event.number] = event;
+        int is_done = event.said == MZ_DONE || event.said == MZ_DONE_WAS;
+        if (event.kind == MZ_EVENT_ANSWER && is_done) write_row(all, &asked[event.number]);
+    }
+    free(asked);
+    return is_whole;
+}
+
+/* The base of a log that is to begin anew. Who was superseded may write it as well: its log, all of which is written,
+ * is what the successor's begins with, and up to the same number it says the same. */
+static int is_base_kept(const client *e) {
+    char path[600], written[600];
+    rows all;
+    mz_pool_lock(e->pool);
+    uint64_t number = mz_last_number(e->tc);
+    int is = is_replayed(e, &all);
+    mz_pool_unlock(e->pool);
+    base_path(e, number, 0, path);
+    base_path(e, number, getpid(), written);
+    FILE *f = is ? fopen(written, "wb") : NULL;
+    is = f && fwrite(&all, sizeof all, 1, f) == 1;
+    if (f && fclose(f)) is = 0;
+    return is && rename(written, path) == 0;
+}
+
 /* ---- checkpoints */
 
-static int keep(void *context, uint16_t dc, uint64_t incarnation, uint64_t mark) {
-    seen *s = ((const client *)context)->plan->seen;
+static int keep_mark(const client *e, uint16_t dc, uint64_t incarnation, uint64_t mark) {
+    seen *s = e->plan->seen;
     s->keeps = 1;
     int kept = storage_keep(dc, incarnation, mark);
     s->keeps = 0;
     return kept;
+}
+
+/* The log has all that the mark counts, and nothing is open. */
+static int keep(void *context, uint16_t dc, uint64_t incarnation, uint64_t mark) {
+    const client *e = (const client *)context;
+    if (e->plan->home && dc == 0 && !is_base_kept(e)) return 0;
+    return keep_mark(e, dc, incarnation, mark);
 }
 
 /* A control: storage is told a mark before the log has all that it counts. */
@@ -175,7 +242,7 @@ static void tell_mark(client *e) {
         uint64_t mark = mz_low_water(e->tc);
         mz_site(e->tc, d, &incarnation, NULL);
         mz_pool_unlock(e->pool);
-        keep(e, d, incarnation, mark);
+        keep_mark(e, d, incarnation, mark);
     }
 }
 
@@ -265,36 +332,13 @@ static int is_right(client *e, uint64_t untold) {
     return sum == e->plan->threads * OPENING;
 }
 
-/* What the log says was written last: of an account at each data component. */
-typedef struct { int is_there; uint64_t balance; } row;
-typedef struct { row at[DCS][THREADS]; } rows;
-
-static void write_row(rows *all, const mz_event *asked) {
-    row *r = &all->at[asked->record.dc][asked->record.key];
-    r->is_there = asked->op != MZ_DELETE;
-    r->balance = mz_little(asked->value, 8);
-}
-
-/* 0 where the log was cut, so that it doesn't say all. */
-static int is_replayed(client *e, rows *all) {
-    mz_event event, *asked = (mz_event *)calloc(mz_last_number(e->tc) + 1, sizeof *asked);
-    int is_whole = asked != NULL;
-    for (uint64_t i = 0; is_whole && mz_log_at(e->tc, i, &event) == MZ_OK; i++) {
-        if (event.kind == MZ_EVENT_CHECKPOINT) is_whole = 0;
-        if (event.kind == MZ_EVENT_ASK || event.kind == MZ_EVENT_UNDO) asked[event.number] = event;
-        if (event.kind == MZ_EVENT_ANSWER && (event.said == MZ_DONE || event.said == MZ_DONE_WAS)) write_row(all, &asked[event.number]);
-    }
-    free(asked);
-    return is_whole;
-}
-
 /* Each balance is the one that was written last. */
 static int is_as_replayed(client *e) {
     static rows all;
     mz_pool_lock(e->pool);
-    int is_whole = is_replayed(e, &all);
+    int is = is_replayed(e, &all);
     mz_pool_unlock(e->pool);
-    if (!is_whole) return 1;
+    if (!is) return 0;
     look(e);
     for (uint16_t d = 0; d < DCS; d++)
         for (uint64_t a = 0; a < (d ? e->targets : e->plan->threads); a++) {

@@ -41,8 +41,9 @@ typedef struct {
  * may tell beside it: then the accounts are for client_check. */
 int client_live(const plan *p);
 
-/* Comes back, and says whether the accounts are right, where each thread may have made so many transfers more than were told; and
- * whether each balance is what the log says was written there last, if it was never cut. Its status as client_live's. */
+/* Comes back, and says whether the accounts are right, where each thread may have made so many transfers more than
+ * were told; and whether each balance is what the log, with what was cut off, says was written there last. Its status
+ * as client_live's. */
 int client_check(const plan *p, uint64_t untold);
 
 uint64_t transfers_told(const plan *p);

@@ -1,5 +1,6 @@
 #include "etcd_log.h"
 #include "etcd_post.h"
+#include "faults.h"
 #include <ctype.h>
 #include <time.h>
 
@@ -77,25 +78,26 @@ static const char *ours(const etcd_log *log, char to[COMPARES]) {
     return to;
 }
 
+#define IS_VALUE "{\"key\":\"%s\",\"target\":\"VALUE\",\"result\":\"EQUAL\",\"value\":\"%s\"}"
+#define IS_NONE "{\"key\":\"%s\",\"target\":\"CREATE\",\"result\":\"EQUAL\",\"create_revision\":\"0\"}"
+#define PUTS "{\"request_put\":{\"key\":\"%s\",\"value\":\"%s\"}}"
+
 /* And that the end is as we know it. */
 static const char *ours_here(const etcd_log *log, char to[COMPARES]) {
     char t[ETCD_TEXT], v[ETCD_TEXT];
     size_t length = strlen(ours(log, to));
     if (!IS_FENCED) return to;
-    key(log, t, "end");
-    to[length++] = ',';
-    if (log->next) snprintf(to + length, COMPARES - length, "{\"key\":\"%s\",\"target\":\"VALUE\",\"result\":\"EQUAL\",\"value\":\"%s\"}",
-                            t, coded_end(v, log->first, log->next));
-    else snprintf(to + length, COMPARES - length, "{\"key\":\"%s\",\"target\":\"CREATE\",\"result\":\"EQUAL\",\"create_revision\":\"0\"}", t);
+    snprintf(to + length, COMPARES - length, "," IS_VALUE, key(log, t, "end"), coded_end(v, log->first, log->next));
     return to;
 }
 
 /* Posts `body` until somebody answers. 0: nobody did for so long, or it was refused, which is named. */
 static int is_posted(etcd_connection *c, const char *path, const char *body) {
+    static faults refused = {.lock = PTHREAD_MUTEX_INITIALIZER};
     for (uint64_t until = milliseconds() + PATIENCE * 1000; milliseconds() < until; rest(1)) {
         etcd_status status = etcd_post(c, path, body);
         if (status == ETCD_DONE) return 1;
-        if (status == ETCD_REFUSED) return fprintf(stderr, "etcd: %s\n", c->in), 0;
+        if (status == ETCD_REFUSED) return fault_seen(&refused, "etcd", c->in), 0;
     }
     return 0;
 }
@@ -247,22 +249,27 @@ mz_device etcd_log_device(etcd_log *log) {
 
 /* ---- reading */
 
-/* The session, drawn where there is none, and where the log begins and ends; and the revision of all that. */
+/* A session, and the end of an empty log, are put where there is neither. */
+static int is_begun(etcd_log *log, const char *session, const char *end) {
+    char compares[COMPARES], v[ETCD_TEXT], none[ETCD_TEXT];
+    snprintf(log->body, BODY, "{\"compare\":[%s," IS_NONE "," IS_NONE "],\"success\":[" PUTS "," PUTS "]}",
+             ours(log, compares), session, end, session, coded_hex(v, log->drawn), end, coded_end(none, 0, 0));
+    return is_posted(&log->to, "kv/txn", log->body);
+}
+
+/* The session, and where the log begins and ends; and the revision of all that. */
 static mz_code read_head(etcd_log *log, uint64_t *session, uint64_t *revision) {
-    char compares[COMPARES], s[ETCD_TEXT], v[ETCD_TEXT], t[ETCD_TEXT];
-    ours(log, compares);
-    key(log, s, "session");
-    snprintf(log->body, BODY, "{\"compare\":[%s,{\"key\":\"%s\",\"target\":\"CREATE\",\"result\":\"EQUAL\",\"create_revision\":\"0\"}],"
-             "\"success\":[{\"request_put\":{\"key\":\"%s\",\"value\":\"%s\"}}]}", compares, s, s, coded_hex(v, log->drawn));
-    if (!is_posted(&log->to, "kv/txn", log->body)) return MZ_LOG_FAILED;
+    char compares[COMPARES], s[ETCD_TEXT], t[ETCD_TEXT];
+    if (!is_begun(log, key(log, s, "session"), key(log, t, "end"))) return MZ_LOG_FAILED;
     snprintf(log->body, BODY, "{\"compare\":[%s],\"success\":[{\"request_range\":{\"key\":\"%s\"}},{\"request_range\":{\"key\":\"%s\"}}]}",
-             compares, s, key(log, t, "end"));
+             ours(log, compares), s, t);
     if (!is_posted(&log->to, "kv/txn", log->body) || !is_done(&log->to)) return MZ_LOG_FAILED;
     *session = response_hex(&log->to, 0, 0);
     log->first = response_hex(&log->to, 1, 0);
     log->next = response_hex(&log->to, 1, 1);
     *revision = etcd_number(etcd_whole(&log->to), "revision");
-    return log->first <= log->next ? MZ_OK : MZ_DAMAGED;
+    int is_whole = *session && etcd_field(etcd_response(etcd_whole(&log->to), 1), "value");
+    return is_whole && log->first <= log->next ? MZ_OK : MZ_DAMAGED;
 }
 
 typedef struct { uint8_t *bytes; size_t count, room; } gathered;

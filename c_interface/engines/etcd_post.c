@@ -134,7 +134,8 @@ etcd_status etcd_post(etcd_connection *c, const char *path, const char *body) {
     if (!etcd_connected(c)) return ETCD_LOST;
     int is_answered = is_sent(c->fd, head, (size_t)length) && is_sent(c->fd, body, strlen(body)) && has_body(c, &status);
     if (is_answered && status == 200) return ETCD_DONE;
-    if (is_answered && status >= 400 && status < 500) return ETCD_REFUSED;
+    int is_full = is_answered && strstr(c->in, "database space exceeded"); /* with a status as of one that is away */
+    if (is_full || (is_answered && status >= 400 && status < 500)) return ETCD_REFUSED;
     etcd_hang_up(c);
     c->which++;
     return ETCD_LOST;

@@ -16,8 +16,9 @@ typedef struct {
     char *in;            /* the body, ended by 0, in as much room as the longest so far took; etcd_let_go gives it back */
 } etcd_connection;
 
-/* ETCD_DONE: what it says stands in `in`; ETCD_REFUSED: the request is wrong, and nothing is done, with the reason there;
- * ETCD_LOST: nobody answered, so it may have been done all the same, and the next member is asked next. */
+/* ETCD_DONE: what it says stands in `in`; ETCD_REFUSED: the request is wrong, or there is no room, and nothing is
+ * done, with the reason there; ETCD_LOST: nobody answered, so it may have been done all the same, and the next member
+ * is asked next. */
 typedef enum { ETCD_LOST, ETCD_DONE, ETCD_REFUSED } etcd_status;
 
 /* Posts a request to /v3/PATH, connecting where it has to. */

@@ -1,19 +1,21 @@
-/* Nodes that take over from one another, over a log's home of three members and two data components, while faults are made:
+/* Nodes that take over from one another, over a log's home of three members and two data components, while faults are
+ * made:
  *
- *     failover OBJECT FOLDER THREADS FAULTS SILENCE KINDS [CONTROL]
+ *     failover OBJECT FOLDER THREADS FAULTS SILENCE KINDS [WORD]
  *
- * SILENCE: milliseconds after which a standby takes over. KINDS: a letter for each kind of fault, one of which is drawn each time:
+ * SILENCE: milliseconds after which a standby takes over. KINDS: a letter for each kind of fault, one of which is
+ * drawn each time:
  *
  *     k  SIGKILL of the leader             s  SIGSTOP, and SIGCONT after its successor leads
  *     m  its beats are lost, it goes on    e  SIGKILL of a member of the home with the leader
  *     q  no majority of the home for 1.5 s d  a data component is killed, each second time so that it loses what it may
  *
- * Each wire may be late, each sixteenth reply is lost, zombies send again (node.c), and the log is cut in between. At the end all
- * nodes are killed, one takes over, and has to find each transfer that was told, none twice, each balance as the log says, and the sum.
- * Status 1: that isn't so, or no call gets on.
+ * Each wire may be late, each sixteenth reply is lost, zombies send again (node.c), and the log is cut in between. At
+ * the end all nodes are killed, one takes over, and has to find each transfer that was told, none twice, each balance
+ * as the log says, and the sum. Status 1: that isn't so, or no call gets on.
  *
- * CONTROL: `unwritten`, wires before the log; `marks_first`, marks before the log. Then 1 is what has to be seen, as it has with a home
- * that compares nothing. */
+ * WORD: `uncut`: the log is never cut. Controls: `unwritten`, wires before the log; `marks_first`, marks before the
+ * log. Then 1 is what has to be seen, as it has with a home that compares nothing. */
 #include "node.h"
 #include "home.h"
 #include "killed.h"
@@ -178,17 +180,18 @@ static void run(uint64_t faults, const char *kinds) {
 }
 
 int main(int argc, char **argv) {
-    const char *control = argc > 7 ? argv[7] : "";
+    const char *word = argc > 7 ? argv[7] : "";
+    int is_uncut = !strcmp(word, "uncut"), is_early = !strcmp(word, "marks_first");
     if (argc < 7 || argc > 8) {
-        fprintf(stderr, "failover OBJECT FOLDER THREADS FAULTS SILENCE KINDS [unwritten|marks_first]\n");
+        fprintf(stderr, "failover OBJECT FOLDER THREADS FAULTS SILENCE KINDS [uncut|unwritten|marks_first]\n");
         return 2;
     }
     p.seen = (shared *)shared_by_lives(sizeof *p.seen);
     p.silence = (unsigned)atoi(argv[5]);
     p.client = (plan){.object = argv[1], .folder = argv[2], .threads = strtoull(argv[3], NULL, 10), .transfers = UINT64_MAX,
-                      .between = strcmp(control, "marks_first") ? BETWEEN : OFTEN, .unwritten = !strcmp(control, "unwritten"),
-                      .marks_first = !strcmp(control, "marks_first"), .losing = 1, .synced = 1, .seen = &p.seen->client};
-    int are_words = !*control || p.client.unwritten || p.client.marks_first;
+                      .between = is_uncut ? 0 : is_early ? OFTEN : BETWEEN, .unwritten = !strcmp(word, "unwritten"),
+                      .marks_first = is_early, .losing = 1, .synced = 1, .seen = &p.seen->client};
+    int are_words = !*word || is_uncut || p.client.unwritten || is_early;
     int are_kinds = *argv[6] && strspn(argv[6], "ksmeqd") == strlen(argv[6]);
     if (!are_words || !are_kinds || !p.silence || p.client.threads < 1 || p.client.threads > THREADS) return 2;
     if (!servers_begin(argv[2], NULL) || !home_begin(argv[2])) return 2;

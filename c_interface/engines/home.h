@@ -22,8 +22,12 @@ mz_device home_device(void *home);
 mz_code home_read(void *home, uint8_t **bytes, size_t *count, uint64_t *session); /* of mz_log_take_over */
 void home_close(void *home);
 
-/* A piece of what it has is gone, by whoever has a way in. 0 where that can't be. */
-int home_damage(void);
+/* What whoever has a way in does to it: a byte of a chunk is another, or a chunk, the epoch or what says where the
+ * log ends is gone. */
+typedef enum { BYTE, CHUNK_GONE, EPOCH_GONE, END_GONE } home_damages;
+
+/* 0 where that can't be alone. */
+int home_damage(home_damages what);
 
 /* ---- its members, of the parent */
 
@@ -33,5 +37,13 @@ int home_begin(const char *folder);
 /* Ends one by SIGKILL; starts it again. */
 void home_kill(int member);
 void home_start(int member);
+
+/* They start again, and have room for no more than a few chunks, or as much as there is. What an append that there is
+ * no room for is refused with, which is named on standard error. */
+const char *home_limit(int is_limited);
+
+/* The members that don't take writes are cut off from the one that does, which stays as it is. One of them takes
+ * writes then. 0 where that can't be, as where they do so by themselves. */
+int home_promote(void);
 
 #endif

@@ -1,4 +1,5 @@
 #include "postgres_log.h"
+#include "faults.h"
 #include <endian.h>
 #include <libpq-fe.h>
 #include <time.h>
@@ -98,6 +99,7 @@ static given name_given(const postgres_log *log) {
  * try before the last may have been done *is_again is 1. */
 static PGresult *answered(postgres_log *log, const char *sql, const given *g, int *is_again) {
     static const int binary[MOST] = {1, 1, 1, 1, 1};
+    static faults refused = {.lock = PTHREAD_MUTEX_INITIALIZER};
     *is_again = 0;
     for (uint64_t until = milliseconds() + PATIENCE * 1000; milliseconds() < until; rest(10)) {
         if (!is_connected(log, &log->to, "set synchronous_commit = on")) continue;
@@ -105,7 +107,7 @@ static PGresult *answered(postgres_log *log, const char *sql, const given *g, in
         ExecStatusType status = PQresultStatus(r);
         if (status == PGRES_COMMAND_OK || status == PGRES_TUPLES_OK) return r;
         int passes = is_passing(log->to, r);
-        if (!passes) fprintf(stderr, "postgres: %s", PQresultErrorMessage(r));
+        if (!passes) fault_seen(&refused, "postgres", PQresultErrorMessage(r));
         PQclear(r);
         if (!passes) return NULL;
         *is_again = 1;
@@ -141,6 +143,12 @@ static int is_confirmed(postgres_log *log) {
 
 /* ---- a standby */
 
+/* Where the row of a log is gone, epochs go on far above those that its chunks have: some may have been taken and
+ * have no chunk. */
+static const char begins_log[] =
+    "insert into mz_log.home select $1::text, coalesce(max(c.epoch) + 4294967296, 0), 0, $2::int8, 0, 0, 0"
+    " from mz_log.chunk c where c.name = $1::text on conflict do nothing";
+
 /* The tables, and a row of this log. */
 static int is_made(postgres_log *log) {
     given g = name_given(log), alone = name_given(log);
@@ -151,7 +159,7 @@ static int is_made(postgres_log *log) {
     int is_new = PQresultStatus(r) != PGRES_TUPLES_OK || PQgetvalue(r, 0, 0)[0] == 't';
     PQclear(r);
     if (is_new) PQclear(PQexec(log->to, schema));
-    return rows_of(log, "insert into mz_log.home values ($1::text, 0, 0, $2::int8, 0, 0, 0) on conflict do nothing", &g, &is_again) >= 0 &&
+    return rows_of(log, begins_log, &g, &is_again) >= 0 &&
            rows_of(log, "insert into mz_log.beat values ($1::text, 0) on conflict do nothing", &alone, &is_again) >= 0;
 }
 
@@ -264,17 +272,24 @@ mz_device postgres_log_device(postgres_log *log) {
 
 /* ---- reading */
 
+/* The last column: whether a chunk is none of the log's, as where its row was made again. */
+static const char heads[] =
+    "select h.session, h.first, h.next,"
+    " (exists (select 1 from mz_log.chunk c where c.name = h.name and c.number < h.first)"
+    " or exists (select 1 from mz_log.chunk c where c.name = h.name and c.number >= h.next))::int4::int8"
+    " from mz_log.home h where h.name = $1 and h.epoch = $2";
+
 static mz_code read_head(postgres_log *log, uint64_t *session) {
     given g = name_given(log);
     int is_again;
     give_number(&g, log->epoch);
-    PGresult *r = answered(log, "select session, first, next from mz_log.home where name = $1 and epoch = $2", &g, &is_again);
-    int is_ours = r && PQntuples(r) == 1;
+    PGresult *r = answered(log, heads, &g, &is_again);
+    int is_ours = r && PQntuples(r) == 1, is_damaged = is_ours && number_of(r, 3);
     if (is_ours) *session = number_of(r, 0);
     if (is_ours) log->first = number_of(r, 1);
     if (is_ours) log->next = number_of(r, 2);
     PQclear(r);
-    return is_ours ? MZ_OK : MZ_LOG_FAILED;
+    return !is_ours ? MZ_LOG_FAILED : is_damaged ? MZ_DAMAGED : MZ_OK;
 }
 
 typedef struct { uint8_t *bytes; size_t count, room; } gathered;

@@ -87,7 +87,7 @@ module _ (w : Whole) (x : Wire) (s : Sound w) (e : RedoesOn w x) where
         (there (λ d. StandsTo (logged w.core.events) (done w.core.events) d e.before.low_water (s.listed.ok.v d)) was_again.low)
 
     all_before : (p : ℕ) → x.number ≡ p + 1 → StandsTo (logged w.core.events) (done w.core.events) (dc_of x.op) p (s.listed.ok.v (dc_of x.op))
-    all_before p is m o said logs at was did low = elim e.next [
+    all_before p is m o said logs at was did low = elim (e.next now) [
       | inl up ↦ (site.up up).answers m o said logs at was did
       | inr none ↦ elim (cases_lt e.before.number m) [
         | inl over ↦ (let far = none m o said logs at was did over in absurd (omega (arith, far, is, low)))

@@ -18,8 +18,8 @@ abbrev pub NoneBetween : Whole → ℕ → ℕ → ℕ → Type 0
 NoneBetween w d low high = (m : ℕ) (o : Op) (said : Said) → logged w.core.events m ≡ Some o → dc_of o ≡ d → said_under (done w.core.events) m ≡ Some said
     → is_done said ≡ true → low < m → high ≤ m
 
--- of its redo this wire was carried and a reply to it has come; and x is the next: what was done there under the next number, or, where the
--- data component is up again, under any
+-- of its redo this wire was carried and a reply to it has come; and x is the next. Where its incarnation is the one
+-- that is known: what was done there under the next number, or, if the data component is up again, under any
 pub record RedoesOn (w : Whole) (x : Wire) : Type 0 where
   pub before : Wire
   pub place : ℕ
@@ -40,4 +40,5 @@ pub record RedoesOn (w : Whole) (x : Wire) : Type 0 where
   pub said : Said
   pub was : said_under (done w.core.events) x.number ≡ Some said
   pub did : is_done said ≡ true
-  pub next : ((site_at w.core.sites (dc_of x.op)).redo ≡ None) ⊎ NoneBetween w (dc_of x.op) before.number x.number
+  pub next : x.incarnation ≡ (site_at w.core.sites (dc_of x.op)).incarnation
+      → ((site_at w.core.sites (dc_of x.op)).redo ≡ None) ⊎ NoneBetween w (dc_of x.op) before.number x.number
