@@ -130,6 +130,9 @@ END
     for example in examples/*/; do
         echo "tools/example.sh $example"
     done
+    for how in "" --control; do
+        echo "examples/once/client.py --procd \$(tools/built.py procd) $how"
+    done
 }
 
 mkdir -p out-gate

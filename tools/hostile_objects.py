@@ -13,12 +13,15 @@ from objects import OBJECT, UNKNOWN, code_of, patched, sections, with_lines
 from trying import Ran, some_of, undocumented
 
 SECTION = "NoName|Outside|Relocated|Twice|NoAccesses|AccessesSize|NoArguments|BadName"
-FAULT = rf"(NotElf|NotLittle64|(NotRelocatable|NotBpf|EntrySize|TooManySections) \d+|NoTable|NoNames|({SECTION}) section \d+"
-FAULT += rf"|NoSlot section \d+ entry \d+|Declared section \d+ {DECLARATION})"
+WHOLE = r"(NotElf|NotLittle64|(NotRelocatable|NotBpf|EntrySize|TooManySections) \d+|NoTable|NoNames)"
+NAME = r"( [!-~]{1,266})?"
+PART = rf"((({SECTION}) section \d+|NoSlot section \d+ entry \d+|Declared section \d+ {DECLARATION}){NAME}"
+PART += rf"( symbol [!-~]{{1,266}})?( [!-~]{{1,255}}:[1-9]\d*)?|NoProcedures)"
+FAULT = rf"({WHOLE}|{PART})"
 CODE = r"E(1 NoCode|2 Length|3 TooLong|[456] (WideCut|UnusedField|Undefined) slot \d+"
 CODE += r"|7 OutsideProfile slot \d+ (Packet|WideSubtype|LocalCall|BtfCall))"
 PLACE = r" [!-~]{1,255}:[1-9]\d*"
-LINES = rf"([a-z0-9_]{{1,32}} (accepted \d+|({VIOLATION}|{CODE})({PLACE})?)\n)*"
+LINES = rf"(refused object {PART}\n)*([a-z0-9_]{{1,32}} (accepted \d+|({VIOLATION}|{CODE})({PLACE})?)\n)*"
 SAYING_LINES = [".debug_line", ".debug_line_str", ".rel.debug_line", ".symtab"]
 
 
@@ -53,9 +56,11 @@ def wrong(data, ran):
         if not is_text(data):
             return None if ran == Ran(3, b"", b"cannot read -: it isn't UTF-8\n") else "no text"
         return undocumented(ran) if ran.status == 1 and re.fullmatch(SCRIPT_REFUSED, printed) else "no script's line"
-    if ran.status == 1 and re.fullmatch(rf"refused object {FAULT}\n", printed):
+    if ran.status == 1 and re.fullmatch(rf"refused object {WHOLE}\n", printed):
         return undocumented(ran)
-    is_refused = bool(re.search(r"(?m)^\w+ [VE]\d", printed))
+    is_refused = bool(re.search(r"(?m)^(\w+ [VE]\d|refused object)", printed))
+    if not printed:
+        return "neither a procedure nor a refusal"
     if ran.status != int(is_refused) or not re.fullmatch(LINES, printed):
         return "not a documented end"
     return undocumented(ran)

@@ -3,7 +3,7 @@ import json
 import pathlib
 import struct
 
-PROGBITS, SYMTAB, STRTAB, REL = 1, 2, 3, 9
+PROGBITS, SYMTAB, STRTAB, RELA, REL = 1, 2, 3, 4, 9
 ABSOLUTE = 2  # R_BPF_64_ABS64
 HEADER = 64
 MOV_7, EXIT = bytes.fromhex("b700000007000000"), bytes.fromhex("9500000000000000")
@@ -43,9 +43,17 @@ def unit(*rows, name=b"bad.c", end=32, version=4):
     return struct.pack("<I", len(body)) + body, 4 + 6 + len(header) + 3
 
 
-def object_of(sections, relocated=(), machine=247, units=()):
+def symbols_of(symbol):
+    """A symbol table and its strings: nothing, and then a symbol of this name, or one that is the section of this number."""
+    is_section = isinstance(symbol, int)
+    name, kind, section, text = (0, 3, symbol, b"") if is_section else (1, 1, 1, symbol + b"\0")
+    return bytes(24) + struct.pack("<IBBHQQ", name, kind, 0, section, 0, 0), b"\0" + text
+
+
+def object_of(sections, relocated=(), machine=247, units=(), referring=()):
     """The file with these sections, from number 1 on, then relocations of those with these numbers, then a line table of units, each
-    with the section and the place there that its address is, and last the names."""
+    with the section and the place there that its address is, then sections of relocations, each with its type, the section's number,
+    the place there, and what it refers to, and last the names."""
     names, data, table = b"\0", b"", [bytes(64)]
 
     def add(name, kind, content, info=0, link=0):
@@ -67,6 +75,12 @@ def object_of(sections, relocated=(), machine=247, units=()):
         add(b".debug_line", PROGBITS, lines)
         add(b".symtab", SYMTAB, symbols)
         add(b".rel.debug_line", REL, relocations, number, number + 1)
+    for kind, section, place, symbol in referring:
+        entries, strings = symbols_of(symbol)
+        number = len(table)
+        add(b".strings", STRTAB, strings)
+        add(b".symbols", SYMTAB, entries, link=number)
+        add(b".relocations", kind, struct.pack("<QII", place, 1, 1) + bytes(8 if kind == RELA else 0), section, number + 1)
     add(b".strtab", STRTAB, names + b".strtab\0")
     begin = struct.pack("<4sBBB9xHHIQQQIHHHHHH", b"\x7fELF", 2, 1, 1, 1, machine, 1, 0, 0, HEADER + len(data), 0, 64, 0, 0, 64, len(table), len(table) - 1)
     return begin + data + b"".join(table)

@@ -4,7 +4,7 @@ import pathlib
 import struct
 import tempfile
 
-from objects import EXIT, MOV_7, SEVEN, named, object_of, patched, taking, unit
+from objects import EXIT, MOV_7, REL, RELA, SEVEN, named, object_of, patched, taking, unit
 from procedures import PUT
 from .row import Row
 
@@ -27,8 +27,9 @@ def entry(number, place, form, value):
 # Files, what is printed, and the status.
 FILES = [
     (TWO, "seven accepted 2\nget accepted 5\n", 0),
-    (object_of([]), "", 0),
-    (object_of([(b".text", SEVEN), (b"license", b"GPL\0")]), "", 0),
+    (object_of([]), "refused object NoProcedures\n", 1),
+    (object_of([(b".text", SEVEN), (b"license", b"GPL\0")]), "refused object NoProcedures\n", 1),
+    (object_of([(b"accesses/seven", taking(0))]), "refused object NoProcedures\n", 1),
     # accesses may stand before the code, and of other procedures too
     (object_of(named(b"b")[::-1] + named(b"a") + [(b"accesses/c", taking(0))]), "b accepted 2\na accepted 2\n", 0),
     (object_of(named(b"seven") + named(b"get", UNTESTED, READS)), "seven accepted 2\nget V10 MaybeNull slot 2\n", 1),
@@ -43,12 +44,12 @@ FILES = [
     (object_of(named(b"seven") + named(b"far", MOV_7 + bytes.fromhex("8510000001000000"))), "seven accepted 2\nfar E7 OutsideProfile slot 1 LocalCall\n", 1),
     # names of 32 bytes, and of 33
     (object_of(named(b"a" * 32)), "a" * 32 + " accepted 2\n", 0),
-    (object_of(named(b"a" * 33)), "refused object BadName section 1\n", 1),
-    (object_of(named(b"seven") + named(b"Seven")), "refused object BadName section 3\n", 1),
-    (object_of(named(b"")), "refused object BadName section 1\n", 1),
-    (object_of(named(b"s\xff")), "refused object BadName section 1\n", 1),
+    (object_of(named(b"a" * 33)), "refused object BadName section 1 procedure/" + "a" * 33 + "\n", 1),
+    (object_of(named(b"seven") + named(b"Seven")), "refused object BadName section 3 procedure/Seven\nseven accepted 2\n", 1),
+    (object_of(named(b"")), "refused object BadName section 1 procedure/\n", 1),
+    (object_of(named(b"s\xff")), "refused object BadName section 1 procedure/s?\n", 1),
     # a fault of the file comes before a name
-    (object_of(named(b"Seven") + [(b"procedure/x", SEVEN)]), "refused object NoAccesses section 3\n", 1),
+    (object_of(named(b"Seven") + [(b"procedure/x", SEVEN)]), "refused object NoAccesses section 3 procedure/x\nrefused object BadName section 1 procedure/Seven\n", 1),
     # a header's faults
     (b"\x7fELF", "refused object NotElf\n", 1),
     (PLAIN[:63], "refused object NotElf\n", 1),
@@ -63,19 +64,19 @@ FILES = [
     (patched(PLAIN, (62, b"\1\0")), "refused object NoNames\n", 1),
     # those of sections
     (entry(1, 0, "<I", 9999), "refused object NoName section 1\n", 1),
-    (entry(2, 32, "<Q", 9999), "refused object Outside section 2\n", 1),
-    (object_of(named(b"seven") + named(b"get", TESTED, READS), relocated=[3]), "refused object Relocated section 3\n", 1),
-    (object_of(named(b"seven") + [(b"procedure/seven", SEVEN)]), "refused object Twice section 3\n", 1),
-    (object_of([(b"procedure/seven", SEVEN), (b"accesses/seve", taking(0))]), "refused object NoAccesses section 1\n", 1),
-    (object_of(named(b"seven", SEVEN, b"")), "refused object AccessesSize section 2\n", 1),
-    (object_of(named(b"seven", SEVEN, taking(0) + b"\0")), "refused object AccessesSize section 2\n", 1),
-    (object_of(named(b"seven", SEVEN, taking(0, *[(0, 0, 0, 1)] * 17))), "refused object AccessesSize section 2\n", 1),
+    (entry(2, 32, "<Q", 9999), "refused object Outside section 2 accesses/seven\nrefused object NoAccesses section 1 procedure/seven\n", 1),
+    (object_of(named(b"seven") + named(b"get", TESTED, READS), relocated=[3]), "refused object Relocated section 3 procedure/get\nseven accepted 2\n", 1),
+    (object_of(named(b"seven") + [(b"procedure/seven", SEVEN)]), "refused object Twice section 3 procedure/seven\nseven accepted 2\n", 1),
+    (object_of([(b"procedure/seven", SEVEN), (b"accesses/seve", taking(0))]), "refused object NoAccesses section 1 procedure/seven\n", 1),
+    (object_of(named(b"seven", SEVEN, b"")), "refused object AccessesSize section 2 accesses/seven\n", 1),
+    (object_of(named(b"seven", SEVEN, taking(0) + b"\0")), "refused object AccessesSize section 2 accesses/seven\n", 1),
+    (object_of(named(b"seven", SEVEN, taking(0, *[(0, 0, 0, 1)] * 17))), "refused object AccessesSize section 2 accesses/seven\n", 1),
     (object_of(named(b"seven", SEVEN, taking(0, *[(0, 0, 0, 1)] * 16))), "seven accepted 2\n", 0),
-    (object_of(named(b"seven", SEVEN, READS[16:])), "refused object NoArguments section 2\n", 1),
-    (object_of(named(b"seven", SEVEN, taking(256))), "refused object NoArguments section 2\n", 1),
-    (object_of(named(b"seven", SEVEN, taking(1, (0, 0, 2, 0), (0, 0, 4, 0)))), "refused object NoSlot section 2 entry 1\n", 1),
-    (object_of(named(b"seven", SEVEN, taking(9))), "refused object Declared section 2 S1 TooManyArgs\n", 1),
-    (object_of(named(b"seven", SEVEN, taking(1, (0, 0, 2, 0), (0, 0, 2, 1)))), "refused object Declared section 2 S3 NoSuchArg slot 1\n", 1),
+    (object_of(named(b"seven", SEVEN, READS[16:])), "refused object NoArguments section 2 accesses/seven\n", 1),
+    (object_of(named(b"seven", SEVEN, taking(256))), "refused object NoArguments section 2 accesses/seven\n", 1),
+    (object_of(named(b"seven", SEVEN, taking(1, (0, 0, 2, 0), (0, 0, 4, 0)))), "refused object NoSlot section 2 entry 1 accesses/seven\n", 1),
+    (object_of(named(b"seven", SEVEN, taking(9))), "refused object Declared section 2 S1 TooManyArgs accesses/seven\n", 1),
+    (object_of(named(b"seven", SEVEN, taking(1, (0, 0, 2, 0), (0, 0, 2, 1)))), "refused object Declared section 2 S3 NoSuchArg slot 1 accesses/seven\n", 1),
 ]
 
 
@@ -125,6 +126,34 @@ FILES += [
 ]
 
 
+# What a section refers to that is to be relocated, and where, and what is printed of that.
+REFERRING = [
+    (REL, 16, b"counter", " symbol counter bad.c:7"),
+    (RELA, 8, b"counter", " symbol counter bad.c:6"),
+    (REL, 12, b"a b", " symbol a?b bad.c:6"),
+    # a section; none; names that are too long and that aren't there
+    (REL, 0, 1, " symbol procedure/seven bad.c:5"),
+    (REL, 0, 99, " bad.c:5"),
+    (REL, 0, b"", " bad.c:5"),
+    (REL, 0, b"c" * 266, " symbol " + "c" * 266 + " bad.c:5"),
+    (REL, 0, b"c" * 267, " bad.c:5"),
+    (REL, 32, b"counter", " symbol counter"),
+]
+GET_TOLD = [(unit((0, 5), (8, 6), (16, 7)), 3, 0)]
+FILES += [
+    (object_of(named(b"seven") + GET, units=GET_TOLD, referring=[(kind, 3, place, symbol)]),
+     f"refused object Relocated section 3 procedure/get{told}\nseven accepted 2\n", 1)
+    for kind, place, symbol, told in REFERRING
+]
+FILES += [
+    # without lines; two of three are refused, each with its own
+    (object_of(named(b"seven") + GET, referring=[(REL, 3, 16, b"counter")]), "refused object Relocated section 3 procedure/get symbol counter\nseven accepted 2\n", 1),
+    (object_of(named(b"seven") + GET + named(b"put"), referring=[(REL, 5, 0, b"helper"), (REL, 1, 8, b"counter")]),
+     "refused object Relocated section 1 procedure/seven symbol counter\nrefused object Relocated section 5 procedure/put symbol helper\n"
+     "get V10 MaybeNull slot 2\n", 1),
+]
+
+
 USED = object_of(named(b"seven") + named(b"used", MOV_7 + bytes.fromhex("9500000001000000")))
 UNSAFE = object_of(named(b"seven") + named(b"get", UNTESTED, READS))
 SAFE_AND_NOT = object_of(named(b"seven") + GET, units=BOTH_TOLD)
@@ -135,7 +164,7 @@ RUNS = [
     (TWO, "dc 8 100\n" + PUT + "first put 5 9\ncall seven\ncall get 5\ncall get 6\n",
      "first 0 committed\ncall 0 aborted 7\ncall 1 aborted 9\ncall 2 committed\nrow 0/0/5 9\n", 0),
     (TWO, "dc 8 100\ncall get\ncall seven\n", "call 0 refused B5 ArgumentCount\ncall 1 aborted 7\n", 0),
-    (object_of([]), "dc 1 1\n", "", 0),
+    (object_of([]), "dc 1 1\n", "refused object NoProcedures\n", 1),
     # the script's own faults
     (TWO, "dc 1 1\nproc get 0\n", "refused line 2 F3 NameTaken\n", 1),
     (TWO, "dc 1 1\ncall other\n", "refused line 2 F4 NameUnknown\n", 1),
@@ -160,7 +189,9 @@ RUNS = [
     (USED, "fly\n", "refused object used E5 UnusedField slot 1\n", 1),
     (object_of(named(b"used", WITH_FIELD), units=[(TOLD, 1, 0)]), "fly\n", "refused object used E5 UnusedField slot 1 bad.c:4\n", 1),
     (object_of(named(b"cut", SEVEN[:-1]), units=[(TOLD, 1, 0)]), "fly\n", "refused object cut E2 Length\n", 1),
-    (object_of(named(b"Seven")), "fly\n", "refused object BadName section 1\n", 1),
+    (object_of(named(b"Seven")), "fly\n", "refused object BadName section 1 procedure/Seven\n", 1),
+    (object_of(named(b"seven") + GET, units=GET_TOLD, referring=[(REL, 3, 16, b"counter")]), "fly\n",
+     "refused object Relocated section 3 procedure/get symbol counter bad.c:7\n", 1),
     (PLAIN[:-1], "dc 1 1\n", "refused object NoTable\n", 1),
     (b"dc 1 1\n", "dc 1 1\n", "refused object NotElf\n", 1),
 ]

@@ -1,29 +1,39 @@
 -- The loop over sections that reads their procedures.
 use Rattle.std.proofs.Common.{◌≡◌, ◌∙◌, ℕ, ◌+◌, ◌<◌, List, ◌++◌, length, map, drop, get_or, ap, arith}
-use Rattle.std.specs.Prelude.{Option, Ok}
-use Rattle.std.specs.Option.{option_map}
+use Rattle.std.specs.Prelude.{Option, Result}
 use Rattle.std.proofs.lemmas.List.{get_or-map, length-map}
-use Rattle.object_file.specs.Gathering.{gathered, listed, IsStop}
-use Rattle.object_file.specs.Object.{named, declared_of, procedure_said, procedures_said}
-use Rattle.object_file.specs.declared.fault.ReadError.{ReadError}
+use Rattle.object_file.specs.Gathering.{viewed, there, fault_there, kept, faults}
+use Rattle.object_file.specs.Object.{Named, Declared, named, declared_of, procedure_said}
+use Rattle.object_file.specs.declared.fault.ObjectFault.{ObjectFault}
 use Rattle.object_file.specs.declared.procedures.Procedure.{Procedure}
 use Rattle.object_file.specs.declared.procedures.Section.{Section}
-use Rattle.object_file.proofs.Gathering.{behind, found_more, found_stop}
+use Rattle.object_file.proofs.Gathering.{kept_more, faults_more}
+
+abbrev said : List Named → ℕ → Named → Result (Option Declared) ObjectFault
+said sections number s = procedure_said sections s
 
 inside : (all : List Section) (k : ℕ) → k < length all → k < length (map named all)
 inside all k below = omega (arith, length-map all named, below)
 
-pub procedure_more : (all : List Section) (k : ℕ) (d : Section) (procedures new : List Procedure) (o : Option Procedure) → k < length all
-    → procedures_said (map named all) ≡ behind (map declared_of procedures) (gathered (λ _ s. procedure_said (map named all) s) k (drop k (map named all)))
-    → procedure_said (map named all) (named (get_or all k d)) ≡ Ok (option_map declared_of o) → new ≡ procedures ++ listed o
-    → procedures_said (map named all) ≡ behind (map declared_of new) (gathered (λ _ s. procedure_said (map named all) s) (k + 1) (drop (k + 1) (map named all)))
-procedure_more all k d procedures new o below so_far here grown =
-    found_more declared_of (λ _ s. procedure_said (map named all) s) k (map named all) (named d) procedures new o (procedures_said (map named all))
-    (inside all k below) so_far (ap (procedure_said (map named all)) (get_or-map named all k d (named d) below) ∙ here) grown
+here_at : (all : List Section) (k : ℕ) (d : Section) (r : Result (Option Procedure) ObjectFault) → k < length all
+    → procedure_said (map named all) (named (get_or all k d)) ≡ viewed declared_of r
+    → procedure_said (map named all) (get_or (map named all) k (named d)) ≡ viewed declared_of r
+here_at all k d r below here = ap (procedure_said (map named all)) (get_or-map named all k d (named d) below) ∙ here
 
-pub procedure_stop : (all : List Section) (k : ℕ) (d : Section) (procedures : List Procedure) (e : ReadError) → k < length all
-    → procedures_said (map named all) ≡ behind (map declared_of procedures) (gathered (λ _ s. procedure_said (map named all) s) k (drop k (map named all)))
-    → IsStop (procedure_said (map named all) (named (get_or all k d))) e → IsStop (procedures_said (map named all)) e
-procedure_stop all k d procedures e below so_far here =
-    found_stop (λ _ s. procedure_said (map named all) s) k (map named all) (named d) (map declared_of procedures) e (procedures_said (map named all))
-    (inside all k below) so_far (rw (get_or-map named all k d (named d) below) here)
+pub procedure_more : (all : List Section) (k : ℕ) (d : Section) (procedures new : List Procedure) (r : Result (Option Procedure) ObjectFault)
+    (total : List Declared) → k < length all
+    → map declared_of procedures ++ kept (said (map named all)) k (drop k (map named all)) ≡ total
+    → procedure_said (map named all) (named (get_or all k d)) ≡ viewed declared_of r → new ≡ procedures ++ there r
+    → map declared_of new ++ kept (said (map named all)) (k + 1) (drop (k + 1) (map named all)) ≡ total
+procedure_more all k d procedures new r total below so_far here grown =
+    kept_more declared_of (said (map named all)) k (map named all) (named d) procedures new r total
+    (inside all k below) so_far (here_at all k d r below here) grown
+
+pub procedure_fault : (all : List Section) (k : ℕ) (d : Section) (before new : List ObjectFault) (r : Result (Option Procedure) ObjectFault)
+    (total : List ObjectFault) → k < length all
+    → before ++ faults (said (map named all)) k (drop k (map named all)) ≡ total
+    → procedure_said (map named all) (named (get_or all k d)) ≡ viewed declared_of r → new ≡ before ++ fault_there r
+    → new ++ faults (said (map named all)) (k + 1) (drop (k + 1) (map named all)) ≡ total
+procedure_fault all k d before new r total below so_far here grown =
+    faults_more declared_of (said (map named all)) k (map named all) (named d) before new r total
+    (inside all k below) so_far (here_at all k d r below here) grown

@@ -24,14 +24,12 @@ use Rattle.std.proofs.Common.{
   arith,
   append_assoc,
 }
-use Rattle.std.specs.Prelude.{Option, Some, None, Result, Ok, Err}
+use Rattle.std.specs.Prelude.{Option, Some, None, Result, Ok, Err, IfOk, IfErr}
 use Rattle.std.specs.Option.{option_map}
 use Rattle.std.proofs.lemmas.List.{append-nil, map-append, drop_more, drop_all}
 use Rattle.object_file.specs.Elf.{rows_in}
-use Rattle.object_file.specs.Gathering.{and_then, listed, gathered, IsStop}
+use Rattle.object_file.specs.Gathering.{and_then, listed, gathered, viewed, there, fault_there, kept, faults}
 use Rattle.object_file.specs.declared.fault.ObjectFault.{ObjectFault}
-use Rattle.object_file.specs.declared.fault.ReadError.{ReadError}
-use Rattle.object_file.specs.declared.fault.ReadError.TheVariants.{Fault, Memory}
 
 -- what was gathered, and what is to come
 abbrev pub behind : {A : Type 0} → List A → Result (List A) ObjectFault → Result (List A) ObjectFault
@@ -82,33 +80,44 @@ row_next width n k rest front back below cut left =
 
 -- ---- loops
 
-view_listed : {B C : Type 0} (view : C → B) (items : List C) (o : Option C) → map view (items ++ listed o) ≡ map view items ++ listed (option_map view o)
-view_listed view items None = map-append view items []
-view_listed view items (Some x) = map-append view items (x ∷ [])
+view_there : {B C : Type 0} (view : C → B) (r : Result (Option C) ObjectFault) → there (viewed view r) ≡ map view (there r)
+view_there view (Ok None) = refl
+view_there view (Ok (Some x)) = refl
+view_there view (Err fault) = refl
+
+fault_view : {B C : Type 0} (view : C → B) (r : Result (Option C) ObjectFault) → fault_there (viewed view r) ≡ fault_there r
+fault_view view (Ok found) = refl
+fault_view view (Err fault) = refl
+
+-- what is said of a result that is seen so
+pub as_viewed : {B C : Type 0} (view : C → B) (said : Result (Option B) ObjectFault) (r : Result (Option C) ObjectFault)
+    → IfOk r (λ found. said ≡ Ok (option_map view found)) → IfErr r (λ fault. said ≡ Err fault) → said ≡ viewed view r
+as_viewed view said (Ok found) ok err = ok
+as_viewed view said (Err fault) ok err = err
 
 -- a loop over a list, which keeps what it finds
-pub found_more : {A B C : Type 0} (view : C → B) (said : ℕ → A → Result (Option B) ObjectFault) (k : ℕ) (xs : List A) (x : A)
-    (items new : List C) (o : Option C) (total : Result (List B) ObjectFault)
-    → k < length xs → total ≡ behind (map view items) (gathered said k (drop k xs))
-    → said k (get_or xs k x) ≡ Ok (option_map view o) → new ≡ items ++ listed o
-    → total ≡ behind (map view new) (gathered said (k + 1) (drop (k + 1) xs))
-found_more {A} {B} {C} view said k xs x items new o total below so_far here grown =
-    gather_more said k (drop k xs) (get_or xs k x) (drop (k + 1) xs) (option_map view o) (map view items) total (drop_more xs k x below) here so_far
-    ∙ ap (λ (ys : List B). behind ys (gathered said (k + 1) (drop (k + 1) xs))) (sym (ap (λ (cs : List C). map view cs) grown ∙ view_listed view items o))
+pub kept_more : {A B C : Type 0} (view : C → B) (said : ℕ → A → Result (Option B) ObjectFault) (k : ℕ) (xs : List A) (x : A)
+    (items new : List C) (r : Result (Option C) ObjectFault) (total : List B)
+    → k < length xs → map view items ++ kept said k (drop k xs) ≡ total
+    → said k (get_or xs k x) ≡ viewed view r → new ≡ items ++ there r
+    → map view new ++ kept said (k + 1) (drop (k + 1) xs) ≡ total
+kept_more {A} {B} {C} view said k xs x items new r total below so_far here grown =
+    ap (λ (cs : List C). map view cs ++ kept said (k + 1) (drop (k + 1) xs)) grown
+    ∙ ap (λ (bs : List B). bs ++ kept said (k + 1) (drop (k + 1) xs)) (map-append view items (there r))
+    ∙ append_assoc (map view items) (map view (there r)) (kept said (k + 1) (drop (k + 1) xs))
+    ∙ ap (λ (bs : List B). map view items ++ (bs ++ kept said (k + 1) (drop (k + 1) xs))) (sym (ap (λ (s : Result (Option B) ObjectFault). there s) here ∙ view_there view r))
+    ∙ ap (λ (ys : List A). map view items ++ kept said k ys) (sym (drop_more xs k x below))
+    ∙ so_far
 
-pub found_bad : {A B : Type 0} (said : ℕ → A → Result (Option B) ObjectFault) (k : ℕ) (xs : List A) (x : A) (done : List B)
-    (fault : ObjectFault) (total : Result (List B) ObjectFault)
-    → k < length xs → total ≡ behind done (gathered said k (drop k xs)) → said k (get_or xs k x) ≡ Err fault → total ≡ Err fault
-found_bad said k xs x done fault total below so_far here =
-    gather_bad said k (drop k xs) (get_or xs k x) (drop (k + 1) xs) fault done total (drop_more xs k x below) here so_far
-
--- want of memory aside
-pub found_stop : {A B : Type 0} (said : ℕ → A → Result (Option B) ObjectFault) (k : ℕ) (xs : List A) (x : A) (done : List B)
-    (e : ReadError) (total : Result (List B) ObjectFault)
-    → k < length xs → total ≡ behind done (gathered said k (drop k xs)) → IsStop (said k (get_or xs k x)) e → IsStop total e
-found_stop said k xs x done (Fault fault) total below so_far here = found_bad said k xs x done fault total below so_far here
-found_stop said k xs x done Memory total below so_far here = tt
-
-pub found_all : {A B : Type 0} (said : ℕ → A → Result (Option B) ObjectFault) (k : ℕ) (xs : List A) (done : List B) (total : Result (List B) ObjectFault)
-    → length xs ≤ k → total ≡ behind done (gathered said k (drop k xs)) → total ≡ Ok done
-found_all said k xs done total past so_far = gather_end said k (drop k xs) done total (drop_all k xs past) so_far
+-- and the faults of the others
+pub faults_more : {A B C : Type 0} (view : C → B) (said : ℕ → A → Result (Option B) ObjectFault) (k : ℕ) (xs : List A) (x : A)
+    (items new : List ObjectFault) (r : Result (Option C) ObjectFault) (total : List ObjectFault)
+    → k < length xs → items ++ faults said k (drop k xs) ≡ total
+    → said k (get_or xs k x) ≡ viewed view r → new ≡ items ++ fault_there r
+    → new ++ faults said (k + 1) (drop (k + 1) xs) ≡ total
+faults_more {A} {B} {C} view said k xs x items new r total below so_far here grown =
+    ap (λ (fs : List ObjectFault). fs ++ faults said (k + 1) (drop (k + 1) xs)) grown
+    ∙ append_assoc items (fault_there r) (faults said (k + 1) (drop (k + 1) xs))
+    ∙ ap (λ (fs : List ObjectFault). items ++ (fs ++ faults said (k + 1) (drop (k + 1) xs))) (sym (ap (λ (s : Result (Option B) ObjectFault). fault_there s) here ∙ fault_view view r))
+    ∙ ap (λ (ys : List A). items ++ faults said k ys) (sym (drop_more xs k x below))
+    ∙ so_far

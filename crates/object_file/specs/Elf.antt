@@ -1,6 +1,6 @@
 -- ELF-64 files, little-endian (System V ABI, gABI 4.1: "ELF Header", "Sections", "String Table").
 use Rattle.std.specs.Prelude.{ℕ, zero, suc, ◌+◌, ◌*◌, ◌/◌, Bool, false, ◌==◌, ◌&&◌, ◌||◌, not, nat_lt, if◌then◌else◌}
-use Rattle.std.specs.Prelude.{List, [], ◌∷◌, length, take, drop, map, slice_get, Option, Some, None, Result, Err}
+use Rattle.std.specs.Prelude.{List, [], ◌∷◌, length, take, drop, map, slice_get, Option, Some, None, Result, Ok, Err}
 use Rattle.std.specs.List.{position}
 use Rattle.std.specs.Str.{bytes_eq}
 use Rattle.std.specs.Option.{option_map}
@@ -81,6 +81,18 @@ strings_of file (Some h) = if h.kind == 3 then or_fault NoNames (part_of file h.
 -- the string table with the names of sections, which is section e_shstrndx
 abbrev pub names_said : List ℕ → List Header → Result (List ℕ) ObjectFault
 names_said file headers = strings_of file (slice_get headers (half_at 62 file))
+
+abbrev pub tables_by_names : List Header → Result (List ℕ) ObjectFault → Option (List Header × List ℕ)
+tables_by_names headers (Ok names) = Some (headers, names)
+tables_by_names headers (Err fault) = None
+
+abbrev pub tables_by_table : List ℕ → Result (List ℕ) ObjectFault → Option (List Header × List ℕ)
+tables_by_table file (Ok table) = tables_by_names (headers_in table) (names_said file (headers_in table))
+tables_by_table file (Err fault) = None
+
+-- the section header table and the names of sections, where both are there
+abbrev pub tables_said : List ℕ → Option (List Header × List ℕ)
+tables_said file = tables_by_table file (table_said file)
 
 -- SHT_PROGBITS (1)
 abbrev pub has_bits : Header → Bool

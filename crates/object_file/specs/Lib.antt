@@ -3,3 +3,4 @@ pub mod Gathering
 pub mod Accesses
 pub mod Object
 pub mod LineSections
+pub mod Referring

@@ -1,10 +1,9 @@
 -- The sections that say of which lines of a source code is (DWARF 5, section 6.2), and how to relocate them.
-use Rattle.std.specs.Prelude.{ℕ, List, [], codes, slice_get, Option, Some, None, Result, Ok, Err}
+use Rattle.std.specs.Prelude.{ℕ, List, [], codes, slice_get, Option, Some, None}
 use Rattle.std.specs.List.{position}
 use Rattle.std.specs.Option.{option_map}
-use Rattle.object_file.specs.Elf.{part_of, headers_in, table_said, names_said, is_named, relocates_in_place}
+use Rattle.object_file.specs.Elf.{part_of, is_named, relocates_in_place, tables_said}
 use Rattle.object_file.specs.declared.elf.Header.{Header}
-use Rattle.object_file.specs.declared.fault.ObjectFault.{ObjectFault}
 use Rattle.object_file.specs.declared.lines.LineSections.{LineSections}
 
 pub record LineBytes : Type 0 where
@@ -53,14 +52,10 @@ lines_at file names headers number = record {
 abbrev pub lines_in : List ℕ → List ℕ → List Header → Option LineBytes
 lines_in file names headers = option_map (lines_at file names headers) (number_named names headers (codes ".debug_line"))
 
-abbrev pub lines_by_names : List ℕ → List Header → Result (List ℕ) ObjectFault → Option LineBytes
-lines_by_names file headers (Ok names) = lines_in file names headers
-lines_by_names file headers (Err fault) = None
-
-abbrev pub lines_by_table : List ℕ → Result (List ℕ) ObjectFault → Option LineBytes
-lines_by_table file (Ok table) = lines_by_names file (headers_in table) (names_said file (headers_in table))
-lines_by_table file (Err fault) = None
+abbrev pub lines_by_tables : List ℕ → Option (List Header × List ℕ) → Option LineBytes
+lines_by_tables file (Some tables) = lines_in file tables.1 tables.0
+lines_by_tables file None = None
 
 -- those of an object file, if it has a line table
 abbrev pub line_sections_said : List ℕ → Option LineBytes
-line_sections_said file = lines_by_table file (table_said file)
+line_sections_said file = lines_by_tables file (tables_said file)

@@ -1,15 +1,16 @@
 -- The procedures of an object file: NAME is the section "procedure/NAME" with its code, and "accesses/NAME" with its declaration.
-use Rattle.std.specs.Prelude.{ℕ, Bool, ◌==◌, ◌&&◌, true, false, not, if◌then◌else◌, List, length, take, drop, codes}
-use Rattle.std.specs.Prelude.{Option, Some, None, Result, Ok, Err}
+use Rattle.std.specs.Prelude.{ℕ, Bool, ◌==◌, ◌&&◌, true, false, not, if◌then◌else◌, List, [], ◌∷◌, ◌++◌, length, take, drop, codes}
+use Rattle.std.specs.Prelude.{Option, Some, None, Result, Ok, Err, map}
 use Rattle.std.specs.List.{find, list_any}
 use Rattle.std.specs.Str.{bytes_eq}
 use Rattle.access_slots.specs.Declaration.{Declaration}
 use Rattle.object_file.specs.Accesses.{accesses_said}
 use Rattle.object_file.specs.Elf.{part_of, string_at, headers_in, table_said, names_said, has_bits, relocates}
-use Rattle.object_file.specs.Gathering.{and_then, or_fault, gathered}
+use Rattle.object_file.specs.Gathering.{and_then, or_fault, kept, faults}
 use Rattle.object_file.specs.declared.elf.Header.{Header}
 use Rattle.object_file.specs.declared.fault.ObjectFault.{ObjectFault}
-use Rattle.object_file.specs.declared.fault.ObjectFault.TheVariants.{NoName, Outside, Relocated, Twice, NoAccesses}
+use Rattle.object_file.specs.declared.fault.ObjectFault.TheVariants.{NoName, Outside, Relocated, Twice, NoAccesses, NoProcedures}
+use Rattle.object_file.specs.declared.procedures.Contents.{Contents}
 use Rattle.object_file.specs.declared.procedures.Kind.{Kind}
 use Rattle.object_file.specs.declared.procedures.Kind.TheVariants.{Code, Accesses}
 use Rattle.object_file.specs.declared.procedures.Procedure.{Procedure}
@@ -50,8 +51,12 @@ section_said file names headers number h =
     if not (has_bits h) then Ok None else
     and_then (or_fault (NoName number) (string_at h.name names)) (λ name. kind_said file headers number h (kind_of name))
 
-abbrev pub sections_said : List ℕ → List ℕ → List Header → Result (List Named) ObjectFault
-sections_said file names headers = gathered (section_said file names headers) 0 headers
+-- the sections of procedures that have no fault, and the faults of the others
+abbrev pub sections_kept : List ℕ → List ℕ → List Header → List Named
+sections_kept file names headers = kept (section_said file names headers) 0 headers
+
+abbrev pub section_faults : List ℕ → List ℕ → List Header → List ObjectFault
+section_faults file names headers = faults (section_said file names headers) 0 headers
 
 -- ---- procedures
 
@@ -87,15 +92,46 @@ code_said sections s =
 abbrev pub procedure_said : List Named → Named → Result (Option Declared) ObjectFault
 procedure_said sections s = if not (same_kind s.kind Code) then Ok None else code_said sections s
 
-abbrev pub procedures_said : List Named → Result (List Declared) ObjectFault
-procedures_said sections = gathered (λ _ s. procedure_said sections s) 0 sections
+-- the procedures of these sections that have no fault, and the faults of the others
+abbrev pub procedures_kept : List Named → List Declared
+procedures_kept sections = kept (λ _ s. procedure_said sections s) 0 sections
+
+abbrev pub procedure_faults : List Named → List ObjectFault
+procedure_faults sections = faults (λ _ s. procedure_said sections s) 0 sections
 
 -- ---- the file
 
-abbrev pub object_in : List ℕ → List Header → Result (List Declared) ObjectFault
-object_in file headers =
-    and_then (names_said file headers) (λ names. and_then (sections_said file names headers) procedures_said)
+pub record Said : Type 0 where
+  pub procedures : List Declared
+  pub faults : List ObjectFault
 
--- its procedures in the order of their sections, or the first fault
+abbrev pub said_of : Contents → Said
+said_of c = record { procedures = map declared_of c.procedures.items; faults = c.faults.items }
+
+-- a file without any procedure has a fault
+abbrev pub or_none_there : List Declared → List ObjectFault → List ObjectFault
+or_none_there [] [] = NoProcedures ∷ []
+or_none_there procedures faults = faults
+
+abbrev pub contents_of : (section_faults : List ObjectFault) → List Named → Said
+contents_of section_faults sections = record {
+  procedures = procedures_kept sections;
+  faults = or_none_there (procedures_kept sections) (section_faults ++ procedure_faults sections);
+}
+
+abbrev pub contents_in : List ℕ → List Header → Result Said ObjectFault
+contents_in file headers =
+    and_then (names_said file headers) (λ names. Ok (contents_of (section_faults file names headers) (sections_kept file names headers)))
+
+-- its procedures that have no fault, in the order of their sections, and the faults of the others: first those of sections, then those of
+-- procedures. Of a file whose tables aren't there only that is said
+abbrev pub contents_said : List ℕ → Result Said ObjectFault
+contents_said file = and_then (table_said file) (λ table. contents_in file (headers_in table))
+
+abbrev pub unless_faulty : List Declared → List ObjectFault → Result (List Declared) ObjectFault
+unless_faulty procedures [] = Ok procedures
+unless_faulty procedures (fault ∷ more) = Err fault
+
+-- its procedures, or the first fault
 abbrev pub object_said : List ℕ → Result (List Declared) ObjectFault
-object_said file = and_then (table_said file) (λ table. object_in file (headers_in table))
+object_said file = and_then (contents_said file) (λ said. unless_faulty said.procedures said.faults)

@@ -2,7 +2,7 @@
 
 ghost use Rattle.std.specs.Prelude.{◌≡◌, ◌==◌, ◌+◌, ◌*◌, ◌≤◌, None, Some, Ok, Err, length, map, IfOk, IfErr, IfSome, IfNone};
 ghost use Rattle.std.specs.List.{list_any, position};
-ghost use Rattle.object_file.specs.Elf.{half_at, word_at, long_at, part_of, string_at, header_in, headers_in, table_said, names_said, relocates, relocates_in_place, has_bits, is_elf, is_named};
+ghost use Rattle.object_file.specs.Elf.{half_at, word_at, long_at, part_of, string_at, header_in, headers_in, table_said, names_said, tables_said, relocates, relocates_in_place, has_bits, is_elf, is_named};
 
 use crate::fault::ObjectFault;
 use byteorder::{ByteOrder, LittleEndian};
@@ -72,9 +72,10 @@ pub fn long_at(place: usize, bytes: &[u8]) -> u64
 }
 
 // So many bytes of the file from this place on, if they are all there.
-fn part_of(file: &[u8], offset: u64, size: u64) -> Option<&[u8]>
+pub(crate) fn part_of(file: &[u8], offset: u64, size: u64) -> Option<&[u8]>
     ensures some { IfSome result (λ part. part_of file.now offset size ≡ Some part.now) }
     ensures none { IfNone result (part_of file.now offset size ≡ None) }
+    ensures long { IfSome result (λ part. length part.now ≡ size) }
 {
     let length = file.len() as u64;
     if offset > length || size > length - offset {
@@ -91,7 +92,7 @@ fn first_zero(bytes: &[u8]) -> Option<usize>
 }
 
 // The string at this place of a table.
-fn string_at(place: u32, strings: &[u8]) -> Option<&[u8]>
+pub(crate) fn string_at(place: u32, strings: &[u8]) -> Option<&[u8]>
     ensures some { IfSome result (λ s. string_at place strings.now ≡ Some s.now) }
     ensures none { IfNone result (string_at place strings.now ≡ None) }
 {
@@ -183,6 +184,24 @@ pub(crate) fn names_of<'a>(file: &'a [u8], headers: &[Header]) -> Result<&'a [u8
     }
 }
 
+/// The section header table and the names of sections, where both are there.
+pub(crate) fn tables_of<'a>(
+    alloc: Global,
+    file: &'a [u8],
+) -> Result<Option<(Vec<Header>, &'a [u8])>, AllocError>
+    ensures some { IfOk result (λ o. IfSome o (λ r. tables_said file.entry.now ≡ Some (r.0.items, r.1.now))) }
+    ensures none { IfOk result (λ o. IfNone o (tables_said file.entry.now ≡ None)) }
+{
+    let Ok(table) = table_of(file) else {
+        return Ok(None);
+    };
+    let headers = headers_in(alloc, table)?;
+    match names_of(file, headers.as_slice()) {
+        Ok(names) => Ok(Some((headers, names))),
+        Err(_) => Ok(None),
+    }
+}
+
 impl Header {
     /// Whether the section has bytes in the file that mean what a program says.
     pub(crate) fn has_bits(&self) -> bool
@@ -228,8 +247,8 @@ impl Header {
         self.kind == RELOCATIONS && self.info as usize == number
     }
 
-    // Whether it says how to relocate the section of this number.
-    fn relocates(&self, number: usize) -> bool
+    /// Whether it says how to relocate the section of this number.
+    pub(crate) fn relocates(&self, number: usize) -> bool
         ensures { result ≡ relocates number self.now }
     {
         matches!(self.kind, RELOCATIONS | RELOCATIONS_ADDING) && self.info as usize == number

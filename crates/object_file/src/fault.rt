@@ -40,6 +40,8 @@ pub enum ObjectFault {
     NoSlot(usize, usize),
     /// What the section of accesses declares is refused.
     Declared(usize, DeclFault),
+    /// The file has no section with a procedure's code.
+    NoProcedures,
 }
 
 /// Why a file isn't read: its fault, or want of memory.

@@ -7,7 +7,8 @@
 //! }
 //! ```
 //!
-//! ([`line_sections`] gives what says of which lines of a source the code is.)
+//! ([`read_contents`] gives the procedures beside those that are refused, [`line_sections`] what says of which lines of a
+//! source the code is, [`first_reference`] what a refused section refers to.)
 //!
 //! A procedure NAME is the section `procedure/NAME` with its code, and `accesses/NAME` with its declaration.
 //! (`object_tests` of `lower_tests` has the tests.)
@@ -18,8 +19,10 @@ mod elf;
 mod fault;
 mod lines;
 mod procedures;
+mod referring;
 
 pub use elf::{MOST_NAME, MOST_SECTIONS, half_at, is_elf, long_at, word_at};
 pub use fault::{ObjectFault, ReadError};
 pub use lines::{LineSections, line_sections};
-pub use procedures::{Procedure, read};
+pub use procedures::{Contents, Procedure, read, read_contents};
+pub use referring::{Reference, first_reference, section_name};

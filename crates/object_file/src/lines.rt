@@ -6,7 +6,7 @@ ghost use Rattle.std.specs.Option.{option_map};
 ghost use Rattle.object_file.specs.LineSections.{line_bytes, bytes_at, number_named, relocations_of, linked};
 ghost use Rattle.object_file.specs.LineSections.{lines_at, lines_in, line_sections_said};
 
-use crate::elf::{Header, headers_in, names_of, table_of};
+use crate::elf::{Header, tables_of};
 use std::alloc::{AllocError, Global};
 
 /// The bytes of these sections, none of one that isn't there.
@@ -40,8 +40,8 @@ fn relocations_of(headers: &[Header], number: usize) -> Option<usize>
         .position(|header| header.relocates_in_place(number))
 }
 
-// The section that the one of this number refers to.
-fn linked(headers: &[Header], number: Option<usize>) -> Option<usize>
+/// The section that the one of this number refers to.
+pub(crate) fn linked(headers: &[Header], number: Option<usize>) -> Option<usize>
     ensures { result ≡ linked headers.now number }
 {
     match headers.get(number?) {
@@ -50,8 +50,8 @@ fn linked(headers: &[Header], number: Option<usize>) -> Option<usize>
     }
 }
 
-// The bytes of the section of this number, if they are there.
-fn bytes_at<'a>(file: &'a [u8], headers: &[Header], number: Option<usize>) -> &'a [u8]
+/// The bytes of the section of this number, if they are there.
+pub(crate) fn bytes_at<'a>(file: &'a [u8], headers: &[Header], number: Option<usize>) -> &'a [u8]
     ensures { result.now ≡ bytes_at file.entry.now headers.now number }
 {
     let Some(number) = number else {
@@ -100,12 +100,8 @@ pub fn line_sections<'a>(
 ) -> Result<Option<LineSections<'a>>, AllocError>
     ensures { IfOk result (λ s. option_map line_bytes s ≡ line_sections_said file.entry.now) }
 {
-    let Ok(table) = table_of(file) else {
-        return Ok(None);
-    };
-    let headers = headers_in(alloc, table)?;
-    let Ok(names) = names_of(file, headers.as_slice()) else {
-        return Ok(None);
-    };
-    Ok(lines_in(file, names, headers.as_slice()))
+    match tables_of(alloc, file)? {
+        Some((headers, names)) => Ok(lines_in(file, names, headers.as_slice())),
+        None => Ok(None),
+    }
 }

@@ -2,15 +2,15 @@
 
 ghost use Rattle.std.specs.Prelude.{◌≡◌, ◌++◌, OnOk, Some, None, Ok, Err, map, IfSome, IfNone, IfOk, IfErr};
 ghost use Rattle.std.specs.Option.{option_map};
-ghost use Rattle.object_file.specs.declared.fault.ReadError.{ReadError};
-ghost use Rattle.object_file.specs.Gathering.{IsStop, listed};
-ghost use Rattle.object_file.specs.Object.{kind_of, named, first_of, section_said, sections_said, procedure_said, procedures_said, object_said, declared_of};
+ghost use Rattle.object_file.specs.Gathering.{IsStop, there, fault_there, viewed};
+ghost use Rattle.object_file.specs.Object.{kind_of, named, first_of, section_said, sections_kept, section_faults, procedure_said};
+ghost use Rattle.object_file.specs.Object.{procedures_kept, procedure_faults, contents_of, contents_said, said_of, object_said, declared_of};
 
 use crate::accesses::declaration_in;
 use crate::elf::{Header, headers_in, is_relocated, names_of, table_of};
 use crate::fault::{ObjectFault, ReadError};
 use access_slots::decl::Decl;
-use std::alloc::Global;
+use std::alloc::{AllocError, Global};
 
 /// What a section of a procedure has.
 #[derive(Clone, Copy, PartialEq, Eq)]
@@ -40,13 +40,28 @@ pub struct Procedure<'a> {
     pub section: usize,
 }
 
-// Keeps what was found, if something was.
-fn push_found<T: Drop>(all: &mut Vec<T>, found: Option<T>) -> Result<(), ReadError>
-    ensures ok { OnOk result (all.new.items ≡ all.old.items ++ listed found) }
-    ensures err { IfErr result (λ e. e ≡ ReadError.Memory) }
+/// What is read of an object file of which a part may be refused.
+#[derive(Drop)]
+pub struct Contents<'a> {
+    /// Those without a fault, in the order of their sections.
+    pub procedures: Vec<Procedure<'a>>,
+    /// Those of sections, then those of procedures.
+    pub faults: Vec<ObjectFault>,
+}
+
+// Keeps what was found, if something was, or its fault.
+fn keep<T: Drop>(
+    all: &mut Vec<T>,
+    faults: &mut Vec<ObjectFault>,
+    said: Result<Option<T>, ObjectFault>,
+) -> Result<(), AllocError>
+    ensures all { OnOk result (all.new.items ≡ all.old.items ++ there said) }
+    ensures faults { OnOk result (faults.new.items ≡ faults.old.items ++ fault_there said) }
 {
-    if let Some(found) = found {
-        all.push(found)?;
+    match said {
+        Ok(Some(found)) => all.push(found)?,
+        Ok(None) => {}
+        Err(fault) => faults.push(fault)?,
     }
     Ok(())
 }
@@ -95,22 +110,23 @@ fn section_of<'a>(
     }))
 }
 
-// The sections of procedures.
+// The sections of procedures that have no fault, and the faults of the others.
 fn sections_of<'a>(
     alloc: Global,
     file: &'a [u8],
     names: &'a [u8],
     headers: &[Header],
-) -> Result<Vec<Section<'a>>, ReadError>
-    ensures ok { IfOk result (λ ss. sections_said file.entry.now names.entry.now headers.now ≡ Ok (map named ss.items)) }
-    ensures err { IfErr result (IsStop (sections_said file.entry.now names.entry.now headers.now)) }
+) -> Result<(Vec<Section<'a>>, Vec<ObjectFault>), AllocError>
+    ensures sections { IfOk result (λ r. map named r.0.items ≡ sections_kept file.entry.now names.entry.now headers.now) }
+    ensures faults { IfOk result (λ r. r.1.items ≡ section_faults file.entry.now names.entry.now headers.now) }
 {
     let mut sections = Vec::new(alloc);
+    let mut faults = Vec::new(alloc);
     'headers: for number in 0..headers.len() {
-        let found = section_of(file, names, headers, number, &headers[number])?;
-        push_found(&mut sections, found)?;
+        let found = section_of(file, names, headers, number, &headers[number]);
+        keep(&mut sections, &mut faults, found)?;
     }
-    Ok(sections)
+    Ok((sections, faults))
 }
 
 // The first section of this kind and name.
@@ -159,20 +175,67 @@ fn procedure_of<'a>(
     }))
 }
 
-// The procedures that have their code in these sections.
-fn procedures_of<'a>(
+// The same, or its fault, memory aside.
+fn procedure_or_fault<'a>(
     alloc: Global,
     sections: &[Section<'a>],
-) -> Result<Vec<Procedure<'a>>, ReadError>
-    ensures ok { IfOk result (λ ps. procedures_said (map named sections.now) ≡ Ok (map declared_of ps.items)) }
-    ensures err { IfErr result (IsStop (procedures_said (map named sections.now))) }
+    section: &Section<'a>,
+) -> Result<Result<Option<Procedure<'a>>, ObjectFault>, AllocError>
+    ensures { IfOk result (λ r. procedure_said (map named sections.now) (named section.now) ≡ viewed declared_of r) }
+{
+    match procedure_of(alloc, sections, section) {
+        Ok(found) => Ok(Ok(found)),
+        Err(ReadError::Fault(fault)) => Ok(Err(fault)),
+        Err(ReadError::Memory) => Err(AllocError),
+    }
+}
+
+// The procedures of these sections that have no fault, and the faults of the others.
+fn procedures_of<'a>(alloc: Global, sections: &[Section<'a>]) -> Result<Contents<'a>, AllocError>
+    ensures procedures { IfOk result (λ c. map declared_of c.procedures.items ≡ procedures_kept (map named sections.now)) }
+    ensures faults { IfOk result (λ c. c.faults.items ≡ procedure_faults (map named sections.now)) }
 {
     let mut procedures = Vec::new(alloc);
+    let mut faults = Vec::new(alloc);
     'sections: for section in sections {
-        let found = procedure_of(alloc, sections, section)?;
-        push_found(&mut procedures, found)?;
+        let found = procedure_or_fault(alloc, sections, section)?;
+        keep(&mut procedures, &mut faults, found)?;
     }
-    Ok(procedures)
+    Ok(Contents { procedures, faults })
+}
+
+// The procedures of these sections, and all faults; there is one where there is no procedure.
+fn contents_of<'a>(
+    alloc: Global,
+    sections: &[Section<'a>],
+    section_faults: Vec<ObjectFault>,
+) -> Result<Contents<'a>, AllocError>
+    ensures { IfOk result (λ c. said_of c ≡ contents_of section_faults.items (map named sections.now)) }
+{
+    let Contents {
+        procedures,
+        faults: further,
+    } = procedures_of(alloc, sections)?;
+    let mut faults = section_faults;
+    faults.extend_from_slice(further.as_slice())?;
+    if procedures.is_empty() && faults.is_empty() {
+        faults.push(ObjectFault::NoProcedures)?;
+    }
+    Ok(Contents { procedures, faults })
+}
+
+/// The procedures of an object file that have no fault, in the order of its sections, and the faults of the others.
+///
+/// Refused with the first fault of the header, of the section header table, or of the names of sections.
+pub fn read_contents<'a>(alloc: Global, file: &'a [u8]) -> Result<Contents<'a>, ReadError>
+    ensures ok { IfOk result (λ c. contents_said file.entry.now ≡ Ok (said_of c)) }
+    ensures err { IfErr result (IsStop (contents_said file.entry.now)) }
+{
+    let table = table_of(file)?;
+    let headers = headers_in(alloc, table)?;
+    let names = names_of(file, headers.as_slice())?;
+    let (sections, faults) = sections_of(alloc, file, names, headers.as_slice())?;
+    Ok(contents_of(alloc, sections.as_slice(), faults)?)
 }
 
 /// The procedures of an object file, in the order of its sections.
@@ -185,9 +248,9 @@ pub fn read<'a>(alloc: Global, file: &'a [u8]) -> Result<Vec<Procedure<'a>>, Rea
     // A fault is the first one; what the file says is read, unless memory runs out.
     ensures err { IfErr result (IsStop (object_said file.entry.now)) }
 {
-    let table = table_of(file)?;
-    let headers = headers_in(alloc, table)?;
-    let names = names_of(file, headers.as_slice())?;
-    let sections = sections_of(alloc, file, names, headers.as_slice())?;
-    procedures_of(alloc, sections.as_slice())
+    let Contents { procedures, faults } = read_contents(alloc, file)?;
+    match faults.first() {
+        Some(fault) => Err(ReadError::Fault(*fault)),
+        None => Ok(procedures),
+    }
 }

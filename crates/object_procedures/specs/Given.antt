@@ -30,13 +30,13 @@ given_of lines f = given_by lines f.code f
 abbrev pub all_given : Option LineBytes → List Found → Result (List Procedure) (List ℕ)
 all_given lines found = each (given_of lines) found
 
-abbrev pub given_after : Option LineBytes → Result (List Found) ObjectRefusal → Result (List Procedure) (List ℕ)
-given_after lines (Ok found) = all_given lines found
-given_after lines (Err why) = Err (object_refusal why)
+abbrev pub given_after : List ℕ → Result (List Found) ObjectRefusal → Result (List Procedure) (List ℕ)
+given_after file (Ok found) = all_given (line_sections_said file) found
+given_after file (Err why) = Err (object_refusal file why)
 
 -- what the file has, in the order of its sections
 abbrev pub given_in : List ℕ → Result (List Procedure) (List ℕ)
-given_in file = given_after (line_sections_said file) (found_in file)
+given_in file = given_after file (found_in file)
 
 -- the report has this line, want of memory aside
 abbrev pub IsStop : {A : Type 0} → Result A (List ℕ) → Ungiven → Type 0

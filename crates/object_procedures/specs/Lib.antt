@@ -1,6 +1,6 @@
 pub mod Each
 pub mod Finding
-pub mod Refusal
 pub mod SourcePlaces
+pub mod Refusal
 pub mod NamedPlaces
 pub mod Given

@@ -1,13 +1,15 @@
 //! The procedures that an object file has for scripts.
 
-ghost use Rattle.std.specs.Prelude.{◌≡◌, map, IfOk, IfErr, Ok};
+ghost use Rattle.std.specs.Prelude.{◌≡◌, ◌++◌, map, IfOk, IfErr, OnOk, Ok};
 ghost use Rattle.object_file.specs.Object.{declared_of};
-ghost use Rattle.object_procedures.specs.Finding.{code_said, found_of, found_in, Gives, IsStop, all_found};
+ghost use Rattle.object_procedures.specs.Each.{there, why_not, kept, refusals};
+ghost use Rattle.object_procedures.specs.Finding.{code_said, found_of, all_of, findings_in, found_in, IsStop};
+ghost use Rattle.object_procedures.specs.declared.finding.ObjectRefusal.TheVariants.{Unread};
 
 use access_slots::decl::Decl;
 use bpf_encoding::code::Code;
 use bpf_encoding::decode::{DecodeFault, decode};
-use object_file::{ObjectFault, Procedure, ReadError, read};
+use object_file::{Contents, ObjectFault, Procedure, ReadError, read_contents};
 use scripts::name::Name;
 use std::alloc::{AllocError, AllocFailed, Global};
 
@@ -29,6 +31,15 @@ pub enum ObjectRefusal {
     Unread(ObjectFault),
     /// No procedure of a script can have the name of the one whose code is the section of this number, from 0.
     BadName(usize),
+}
+
+/// What an object file has for scripts, of which a part may be refused.
+#[derive(Drop)]
+pub struct Findings<'a> {
+    /// Those that aren't refused, in the order of their sections.
+    pub found: Vec<Found<'a>>,
+    /// Of the file, then of names.
+    pub refusals: Vec<ObjectRefusal>,
 }
 
 /// Why there are no procedures: they are refused, or memory ran out.
@@ -71,9 +82,12 @@ fn code_in(alloc: Global, bytes: &[u8]) -> Result<Result<Code, DecodeFault>, All
     }
 }
 
-// What a procedure of the file is for scripts.
-fn found_of<'a>(alloc: Global, procedure: Procedure<'a>) -> Result<Found<'a>, FindError>
-    ensures { Gives (found_of (declared_of procedure.entry)) result }
+// What a procedure of the file is for scripts, or why it isn't taken.
+fn found_of<'a>(
+    alloc: Global,
+    procedure: Procedure<'a>,
+) -> Result<Result<Found<'a>, ObjectRefusal>, AllocError>
+    ensures { IfOk result (λ r. found_of (declared_of procedure.entry) ≡ r) }
 {
     let Procedure {
         name,
@@ -82,26 +96,78 @@ fn found_of<'a>(alloc: Global, procedure: Procedure<'a>) -> Result<Found<'a>, Fi
         section,
     } = procedure;
     let Ok(name) = Name::parse(name) else {
-        return Err(FindError::Refused(ObjectRefusal::BadName(section)));
+        return Ok(Err(ObjectRefusal::BadName(section)));
     };
-    Ok(Found {
+    Ok(Ok(Found {
         name,
         decl,
         code: code_in(alloc, code)?,
         section,
-    })
+    }))
 }
 
-// What these procedures of a file are for scripts.
-fn all_found<'a>(alloc: Global, procedures: Vec<Procedure<'a>>) -> Result<Vec<Found<'a>>, FindError>
-    ensures ok { IfOk result (λ found. all_found (map declared_of procedures.entry.items) ≡ Ok found.items) }
-    ensures err { IfErr result (IsStop (all_found (map declared_of procedures.entry.items))) }
+// Keeps what was found, or why it isn't taken.
+fn keep<T: Drop, W: Drop>(
+    all: &mut Vec<T>,
+    refusals: &mut Vec<W>,
+    one: Result<T, W>,
+) -> Result<(), AllocError>
+    ensures all { OnOk result (all.new.items ≡ all.old.items ++ there one) }
+    ensures refusals { OnOk result (refusals.new.items ≡ refusals.old.items ++ why_not one) }
+{
+    match one {
+        Ok(found) => all.push(found)?,
+        Err(why) => refusals.push(why)?,
+    }
+    Ok(())
+}
+
+// Of these procedures of a file those that scripts can have, and why the others aren't taken.
+fn all_found<'a>(alloc: Global, procedures: Vec<Procedure<'a>>) -> Result<Findings<'a>, AllocError>
+    ensures found { IfOk result (λ f. f.found.items ≡ kept found_of (map declared_of procedures.entry.items)) }
+    ensures refusals { IfOk result (λ f. f.refusals.items ≡ refusals found_of (map declared_of procedures.entry.items)) }
 {
     let mut found = Vec::new(alloc);
+    let mut refusals = Vec::new(alloc);
     'procedures: for procedure in procedures {
-        found.push(found_of(alloc, procedure)?)?;
+        let one = found_of(alloc, procedure)?;
+        keep(&mut found, &mut refusals, one)?;
     }
-    Ok(found)
+    Ok(Findings { found, refusals })
+}
+
+// Faults of a file as refusals.
+fn unread(alloc: Global, faults: &[ObjectFault]) -> Result<Vec<ObjectRefusal>, AllocError>
+    ensures { IfOk result (λ refusals. refusals.items ≡ map Unread faults.now) }
+{
+    let mut refusals = Vec::new(alloc);
+    'faults: for fault in faults {
+        refusals.push(ObjectRefusal::Unread(*fault))?;
+    }
+    Ok(refusals)
+}
+
+/// Of an object file's procedures those that aren't refused, in the order of its sections, and why the others are.
+///
+/// Refused with the first fault of the header, of the section header table, or of the names of sections.
+pub fn find_all<'a>(alloc: Global, file: &'a [u8]) -> Result<Findings<'a>, FindError>
+    ensures ok { IfOk result (λ f. findings_in file.entry.now ≡ Ok (all_of f)) }
+    ensures err { IfErr result (IsStop (findings_in file.entry.now)) }
+{
+    let Contents { procedures, faults } = match read_contents(alloc, file) {
+        Ok(contents) => contents,
+        Err(ReadError::Fault(fault)) => {
+            return Err(FindError::Refused(ObjectRefusal::Unread(fault)));
+        }
+        Err(ReadError::Memory) => return Err(FindError::Memory),
+    };
+    let mut refusals = unread(alloc, faults.as_slice())?;
+    let Findings {
+        found,
+        refusals: further,
+    } = all_found(alloc, procedures)?;
+    refusals.extend_from_slice(further.as_slice())?;
+    Ok(Findings { found, refusals })
 }
 
 /// The procedures of an object file, in the order of its sections.
@@ -111,12 +177,9 @@ pub fn find<'a>(alloc: Global, file: &'a [u8]) -> Result<Vec<Found<'a>>, FindErr
     ensures ok { IfOk result (λ found. found_in file.entry.now ≡ Ok found.items) }
     ensures err { IfErr result (IsStop (found_in file.entry.now)) }
 {
-    let procedures = match read(alloc, file) {
-        Ok(procedures) => procedures,
-        Err(ReadError::Fault(fault)) => {
-            return Err(FindError::Refused(ObjectRefusal::Unread(fault)));
-        }
-        Err(ReadError::Memory) => return Err(FindError::Memory),
-    };
-    all_found(alloc, procedures)
+    let Findings { found, refusals } = find_all(alloc, file)?;
+    match refusals.first() {
+        Some(why) => Err(FindError::Refused(*why)),
+        None => Ok(found),
+    }
 }

@@ -119,7 +119,7 @@ pub fn given<'a>(alloc: Global, file: &'a [u8]) -> Result<Vec<Procedure<'a>>, Un
 {
     match find(alloc, file) {
         Ok(found) => all_given(alloc, line_sections(alloc, file)?, found),
-        Err(FindError::Refused(why)) => Err(Ungiven::Refused(refusal(alloc, why)?)),
+        Err(FindError::Refused(why)) => Err(Ungiven::Refused(refusal(alloc, file, why)?)),
         Err(FindError::Memory) => Err(Ungiven::Memory),
     }
 }

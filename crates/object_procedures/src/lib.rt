@@ -3,7 +3,7 @@
 //! ```
 //! match find(alloc, bytes) {
 //!     Ok(found) => show(found), // each with its name, its declaration, and its code or the code's first fault
-//!     Err(FindError::Refused(why)) => print(refusal(alloc, why)?.lines), // refused object NoAccesses section 3
+//!     Err(FindError::Refused(why)) => print(refusal(alloc, bytes, why)?.lines), // refused object NotBpf 62
 //!     Err(FindError::Memory) => give_up(),
 //! }
 //! ```

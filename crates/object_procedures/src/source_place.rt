@@ -11,8 +11,8 @@ use object_file::LineSections;
 use source_lines::{Place, SourceLine, line_at};
 use std::alloc::{AllocError, Global};
 
-// Bytes of a slot.
-const SLOT: u64 = 8;
+/// Bytes of a slot.
+pub(crate) const SLOT: u64 = 8;
 
 /// A section of code, with the line table of its file, if there is one.
 #[derive(Clone, Copy)]
@@ -32,8 +32,8 @@ fn shown_byte(byte: u8) -> char
     '?'
 }
 
-// A file's name.
-fn file_text(alloc: Global, file: &[u8]) -> Result<String, AllocError>
+/// A name as it is printed.
+pub(crate) fn file_text(alloc: Global, file: &[u8]) -> Result<String, AllocError>
     ensures { IfOk result (λ s. string_bytes s ≡ file_text file.now) }
 {
     let mut text = String::new(alloc);

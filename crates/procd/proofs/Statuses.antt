@@ -1,7 +1,7 @@
 -- A command's status is 0 or 1.
 use Rattle.std.proofs.Common.{arith, ℕ, Bool, List, length, map, Option, Some, None}
 use Rattle.std.proofs.Common.{true, false}
-use Rattle.std.specs.Prelude.{Result, Ok, Err, is_some, ◌≡◌, ◌≤◌, ◌&&◌, if◌then◌else◌}
+use Rattle.std.specs.Prelude.{Result, Ok, Err, is_some, ◌≡◌, ◌≤◌, ◌&&◌, ◌||◌, if◌then◌else◌}
 use Rattle.text_commands.specs.Execution.{status_of}
 use Rattle.report_texts.specs.Hex.{Hex, hex_of}
 use Rattle.command_line.specs.Task.{Wish, Exec, Asm, Dis, Verify, World, Run, Partitioned, Log}
@@ -12,10 +12,9 @@ use Rattle.std.specs.List.{list_any}
 use Rattle.scripts.specs.Reading.{Contents, Reading, script_said}
 use Rattle.script_loading.specs.Loading.{Beginning, beginning, refusal_of, with_procedures, empty_core, empty_store, begun, empty_stores}
 use Rattle.object_file.specs.Elf.{is_elf}
-use Rattle.object_procedures.specs.Finding.{found_in}
-use Rattle.object_procedures.specs.declared.finding.Found.{Found}
+use Rattle.object_procedures.specs.Finding.{AllFound, findings_in}
 use Rattle.object_procedures.specs.declared.finding.ObjectRefusal.{ObjectRefusal}
-use Rattle.text_commands.specs.ObjectVerification.{IsVerification, is_found_refused, status_of_found}
+use Rattle.text_commands.specs.ObjectVerification.{IsVerification, is_found_refused, has_some, status_of_found}
 use Rattle.log_file.specs.declared.stored.Stored.{Stored}
 use Rattle.log_command.specs.LogReport.{IsUnread, IsListing, Listed, Unread, IsChecked, NotBegun, NotBrought, Audited}
 use Rattle.log_command.specs.LogReport.{IsBeside, NotRead, Anothers, Own, IsAuditBy}
@@ -168,13 +167,13 @@ audit_low (Some refusal) contents file status lines h = omega (arith, h.0)
 audit_low None contents file status lines h =
     beside_low file (with_procedures (empty_core (length contents.dcs)) contents.procedures) (map empty_store contents.dcs) status lines h
 
-found_low : (found : Result (List Found) ObjectRefusal) → status_of_found found ≤ 1
-found_low (Ok found) =
-    elim (list_any is_found_refused found) as (λ b. (if b then 1 else 0) ≤ 1) [ true ↦ omega arith | false ↦ omega arith ]
+found_low : (findings : Result AllFound ObjectRefusal) → status_of_found findings ≤ 1
+found_low (Ok all) =
+    elim (has_some all.refusals || list_any is_found_refused all.found) as (λ b. (if b then 1 else 0) ≤ 1) [ true ↦ omega arith | false ↦ omega arith ]
 found_low (Err why) = omega arith
 
 verification_low : (is_object : Bool) (file : List ℕ) (status : ℕ) (lines : List ℕ) → IsVerification is_object file status lines → status ≤ 1
-verification_low true file status lines h = omega (arith, h.0, found_low (found_in file))
+verification_low true file status lines h = omega (arith, h.0, found_low (findings_in file))
 verification_low false text status lines h = omega (arith, h.0, reading_low (script_said command.Verify text))
 
 world_of_low : (behind : Behind) (script : Option (List ℕ)) (file : List ℕ) (status : ℕ) (lines : List ℕ)

@@ -3,7 +3,7 @@
 use crate::cure::cure_of;
 use crate::verification::refused_at;
 use object_file::{LineSections, line_sections};
-use object_procedures::finding::{FindError, Found, find};
+use object_procedures::finding::{FindError, Found, find_all};
 use object_procedures::source_place::Origin;
 use scripts::name::Name;
 use source_lines::SourceLine;
@@ -77,8 +77,8 @@ pub fn refused_procedures<'a>(
     alloc: Global,
     file: &'a [u8],
 ) -> Result<Vec<RefusedProcedure<'a>>, AllocError> {
-    match find(alloc, file) {
-        Ok(found) => all_refused(alloc, line_sections(alloc, file)?, found),
+    match find_all(alloc, file) {
+        Ok(findings) => all_refused(alloc, line_sections(alloc, file)?, findings.found),
         Err(FindError::Refused(_)) => Ok(Vec::new(alloc)),
         Err(FindError::Memory) => Err(AllocError),
     }

@@ -4,7 +4,7 @@ use Rattle.std.specs.List.{flat_map, list_any}
 use Rattle.std.specs.Option.{option_map}
 use Rattle.object_file.specs.LineSections.{line_bytes}
 use Rattle.text_commands.specs.ObjectVerification.{found_line, is_found_refused}
-use Rattle.text_commands.proofs.object_verification.all_verified.Given as goal
+use Rattle.text_commands.proofs.object_verification.verdicts.Given as goal
 
 abbrev pub invariant-found : goal.invariant-found
 invariant-found l =
