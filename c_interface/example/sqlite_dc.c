@@ -1,4 +1,5 @@
 #include "sqlite_dc.h"
+#include "engines/faults.h"
 #include <fcntl.h>
 #include <stdio.h>
 #include <unistd.h>
@@ -126,15 +127,25 @@ static int all_performed(sqlite_dc *dc, uint64_t mark, const mz_wire *w, size_t 
     return 1;
 }
 
+/* Want of room is no fault of the file. */
+static void name_fault(sqlite_dc *dc) {
+    static faults seen = {.lock = PTHREAD_MUTEX_INITIALIZER};
+    dc->is_full = sqlite3_errcode(dc->db) == SQLITE_FULL;
+    if (!dc->is_full) fault_seen(&seen, "sqlite", sqlite3_errmsg(dc->db));
+}
+
 static mz_carried tried(sqlite_dc *dc, const mz_wire *wires, size_t count, mz_reply *replies, mz_news *news) {
     uint64_t session = 0;
     dc->is_full = 0;
-    if (!is_done(dc, BEGIN)) return MZ_LOST;
+    if (!is_done(dc, BEGIN)) {
+        name_fault(dc);
+        return MZ_LOST;
+    }
     int known = standing(dc, news, &session);
     mz_carried carried = !known || session != wires->session ? MZ_RETIRED
                          : news->incarnation != wires->incarnation ? MZ_RESTARTED : MZ_LOST;
     if (carried == MZ_LOST && all_performed(dc, news->mark, wires, count, replies) && is_done(dc, COMMIT)) return MZ_REPLIED;
-    dc->is_full = sqlite3_errcode(dc->db) == SQLITE_FULL;
+    if (carried == MZ_LOST) name_fault(dc);
     is_done(dc, ROLLBACK);
     return carried;
 }
