@@ -1,13 +1,15 @@
 #!/usr/bin/env python3
 """Kills `procd run --log LOG --checkpoint` while LOG begins anew, and looks whether anything that it told is lost.
 
-usage: tools/cut_crashes.py [--kills N] [--seed N] [--forget | --control] [--procd PATH]
+usage: tools/cut_crashes.py [--kills N] [--seed N] [--upgrade] [--forget | --control] [--procd PATH]
 
 Each run inserts new records, a call for each, and writes LOG anew before its first call and behind its last. It is killed
 a moment after LOG.new is seen, or right after it is gone again, and the next run goes on from what is left. Behind each
 kill a copy of LOG is come back from: each record whose call was told as committed is there, with its value, and none
 that no call inserts; `procd log --audit` says ok. What is left in LOG.new is in nobody's way.
 
+--upgrade: after each kill LOG goes on under other procedures. It is refused, and not changed, until a run of its own has
+left a checkpoint alone; the run that upgrades it is killed too, and the rows stay as they were.
 --forget: LOG.new stands behind forgetful.c: what is written to it and not synced is lost with the process, or some part of
 it is, torn anywhere. --control: syncs of it are lies, so this tool has to find that calls are lost.
 The status is 1 where something was wrong; the files are then kept.
@@ -32,6 +34,9 @@ RECORDS = 40_000  # of a file, before another one is begun
 CALLS = 200, 2_000  # so many a run makes
 LINGER = 0.004  # seconds behind a sight of LOG.new, at most
 SCRIPT = f"dc {RECORDS + CALLS[1]} {4 * RECORDS}\n" + PUT
+# The same, and other code that does the same.
+VERSIONS = SCRIPT, SCRIPT.replace("  mov r1, 0\n", "  mov r7, 1\n  mov r1, 0\n", 1)
+REFUSED = "refused log Other digest: checkpoint it with its own procedures first\n"
 TOLD = re.compile(r"^told (\d+) (\w+)", re.MULTILINE)
 ROW = re.compile(r"^row 0/0/(\d+) (\d+)$", re.MULTILINE)
 
@@ -60,7 +65,7 @@ class Runs:
         self.files += 1
         self.log = self.folder / f"log{self.files}"
         self.new = pathlib.Path(f"{self.log}.new")
-        self.next, self.told = 1, set()
+        self.next, self.told, self.version = 1, set(), 0
 
     def environment(self):
         """What the run is started with."""
@@ -94,7 +99,7 @@ class Runs:
         """One run, killed; answers the keys that it was to insert."""
         keys = range(self.next, self.next + self.draw.randint(*CALLS))
         script = self.folder / "calls.txt"
-        script.write_text(SCRIPT + "".join(f"call put {key} {value_of(key)}\n" for key in keys))
+        script.write_text(VERSIONS[self.version] + "".join(f"call put {key} {value_of(key)}\n" for key in keys))
         self.next = keys.stop
         words = ["run", "--log", str(self.log), "--checkpoint", "--checkpoint-over", "0", "--tell", "--workers", self.draw.choice("148"), str(script)]
         before = self.log.stat().st_ino if self.log.exists() else None
@@ -117,7 +122,7 @@ class Runs:
             raise Wrong("there is no LOG")
         copy, empty = self.folder / "copy", self.folder / "empty.txt"
         shutil.copyfile(self.log, copy)
-        empty.write_text(SCRIPT)
+        empty.write_text(VERSIONS[self.version])
         rows = {int(key): int(value) for key, value in ROW.findall(self.run("run", "--log", str(copy), str(empty)))}
         if lost := self.told - rows.keys():
             raise Wrong(f"{len(lost)} calls that were told are lost, of {len(self.told)}: {sorted(lost)[:10]}")
@@ -125,6 +130,38 @@ class Runs:
             raise Wrong(f"rows that no call makes: {dict(list(wrong.items())[:10])}")
         if not (found := self.run("log", "--audit", str(copy), str(empty))).startswith("audit ok "):
             raise Wrong(f"the audit: {found}")
+        return rows
+
+    def others(self):
+        """What a run of the other procedures, without calls, is refused for, if it is."""
+        words = ["run", "--log", str(self.log), str(self.folder / "others.txt")]
+        ran = subprocess.run([self.options.procd, *words], capture_output=True, text=True, check=False)
+        if ran.returncode == 1:
+            return ran.stdout
+        if ran.returncode:
+            raise Wrong(f"{words}: status {ran.returncode}: {ran.stdout[:300]} {ran.stderr[:300]}")
+        return None
+
+    def upgrade(self, rows):
+        """Has the file go on under the other procedures, with these rows."""
+        other = self.folder / "others.txt"
+        other.write_text(VERSIONS[1 - self.version])
+        before = self.log.read_bytes()
+        if (refused := self.others()) is not None:
+            if refused != REFUSED or self.log.read_bytes() != before:
+                raise Wrong(f"an upgrade of a log that isn't cut: {refused}, the same bytes: {self.log.read_bytes() == before}")
+            self.run("run", "--log", str(self.log), "--checkpoint", str(self.folder / "empty.txt"))
+            self.counts["refused until cut"] += 1
+            words = [self.options.procd, "run", "--log", str(self.log), str(other)]
+            with subprocess.Popen(words, stdout=subprocess.DEVNULL, stderr=subprocess.DEVNULL, env=self.environment()) as process:
+                self.watch(process)
+                process.kill()
+        if refused := self.others():
+            raise Wrong(f"an upgrade of a checkpoint alone: {refused}")
+        self.version = 1 - self.version
+        self.counts["upgraded"] += 1
+        if (now := self.look()) != rows:
+            raise Wrong(f"an upgrade changes rows: {len(rows)} before, {len(now)} after")
 
     def step(self):
         """One kill, and what is left."""
@@ -132,7 +169,9 @@ class Runs:
             self.counts["calls told"] += len(self.told)
             self.begin()
         self.kill()
-        self.look()
+        rows = self.look()
+        if self.options.upgrade:
+            self.upgrade(rows)
 
 
 def main():
@@ -140,6 +179,7 @@ def main():
     parser.add_argument("--kills", type=int, default=100)
     parser.add_argument("--seed", type=int, default=1)
     parser.add_argument("--procd", default=str(PROCD))
+    parser.add_argument("--upgrade", action="store_true")
     how = parser.add_mutually_exclusive_group()
     how.add_argument("--forget", action="store_true")
     how.add_argument("--control", action="store_true")

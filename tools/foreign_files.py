@@ -30,7 +30,7 @@ OWN = header(1, NOTHING)
 OTHERS = {
     header(2, NOTHING): "Other dcs 2 script 1",
     header(1): "Other procedures 0 script 1",
-    header(1, procedure(0, [], bytes.fromhex("b700000006000000 9500000000000000"))): "Other digest",
+    header(1, procedure(0, [], bytes.fromhex("b700000006000000 9500000000000000"))): "Other digest: checkpoint it with its own procedures first",
     header(1, NOTHING, version=2): "Other",
     header(1, NOTHING, version=3, session=[7]): "Other session",
     OWN[:-1]: "Other",

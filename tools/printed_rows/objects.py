@@ -6,7 +6,7 @@ import tempfile
 
 from objects import EXIT, MOV_7, REL, RELA, SEVEN, named, object_of, patched, taking, unit
 from procedures import PUT
-from .row import Row
+from .row import CURE, Row
 
 # mov r1, 0; call 1; ldxdw r0, [r0+0]; exit
 UNTESTED = bytes.fromhex("b701000000000000 8500000001000000 7900000000000000 9500000000000000")
@@ -226,10 +226,12 @@ def rows(_program):
     for out in ("", "recovered 2 events, 0 open\n"):
         yield Row(logged, PLAIN, f"{out}call 0 aborted 7\n".encode(), 0)
     yield Row(logged, TWO, b"refused log Other procedures 1 script 2\n", 1)
-    yield Row(logged, object_of(named(b"seven", MOV_7 + SEVEN)), b"refused log Other digest\n", 1)
+    yield Row(logged, object_of(named(b"seven", MOV_7 + SEVEN)), f"refused log Other digest: {CURE}\n".encode(), 1)
     given, other = pathlib.Path(folder.name, "given"), pathlib.Path(folder.name, "other")
     given.write_bytes(PLAIN)
     other.write_bytes(TWO)
+    # a log of its checkpoint alone goes on under other procedures
+    anew = ["run", "--checkpoint", "--log", str(log), "-", str(script)]
     missing = b"cannot read no-such-file: no such file or directory\n"
     audit = ["log", "--audit", str(log)]
     yield Row([*audit, str(given), str(script)], b"", b"audit ok ended 2 open 0\n", 0)
@@ -239,6 +241,9 @@ def rows(_program):
     no_script = b"it is an object file, and no SCRIPT stands behind it\n"
     yield Row([*audit, str(given)], b"", b"", 3, b"cannot read %b: %b" % (str(given).encode(), no_script))
     yield Row([*audit, str(script), str(given)], b"", b"", 3, b"cannot read %b: it isn't UTF-8\n" % str(given).encode())
+    yield Row(anew, PLAIN, b"recovered 4 events, 0 open\ncall 0 aborted 7\ncheckpoint 3 0\n", 0)
+    yield Row(logged, TWO, b"recovered 1 events, 0 open\ncall 0 aborted 7\n", 0)
+    yield Row(logged, PLAIN, b"refused log Other procedures 2 script 1\n", 1)
     beside = pathlib.Path(folder.name, "beside")
     for command in ("run", "world"):
         beside.write_bytes(PLAIN)

@@ -3,7 +3,7 @@ import atexit
 import pathlib
 import tempfile
 
-from .row import Row
+from .row import CURE, Row
 from .runs import APART, APART_AUDITS, APART_PRINTED
 
 NONE = APART[: APART.index("first alone")]
@@ -88,7 +88,7 @@ def rows(_program):
         file.write(bytes(5))
     yield run("four", f"partition 1\nrecovered 4 events, 0 open\ndropped 5 bytes to {place}/four.1.dropped\nrow 1/0/5 0\n")
     # where one is refused nothing else is printed
-    yield run("one", "partition 0\nrefused log Other digest\n", text=other, status=1)
+    yield run("one", f"partition 0\nrefused log Other digest: {CURE}\n", text=other, status=1)
     (place / "seven.0").mkdir()
     yield run("seven", "partition 0\nrefused log NotAFile directory\n", text=calls, status=1)
     (place / "eight.3").write_text("somebody else's\n")

@@ -6,6 +6,10 @@ import collections
 Row = collections.namedtuple("Row", "words given out status told", defaults=(b"",))
 
 
+# What lets other procedures go on from a log.
+CURE = "checkpoint it with its own procedures first"
+
+
 def row(words, given, out, status=0):
     """A row of texts, with nothing on standard error."""
     return Row(words.split(), given.encode(), out.encode(), status)

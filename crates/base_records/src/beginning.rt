@@ -58,8 +58,8 @@ fn first_crowded(base: &[BaseRow], dcs: &[Dc]) -> Option<usize>
     None
 }
 
-// Why these data components don't begin with the records, if there is a reason.
-fn base_fault(base: &[BaseRow], dcs: &[Dc]) -> Option<BaseFault>
+/// Why these data components don't begin with the records, if there is a reason.
+pub fn base_fault(base: &[BaseRow], dcs: &[Dc]) -> Option<BaseFault>
     ensures { IfSome result (IsBaseFault base.now dcs.now) }
 {
     match first_of_none(base, dcs.len()) {

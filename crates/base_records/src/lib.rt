@@ -12,4 +12,4 @@
 
 mod beginning;
 
-pub use beginning::{BaseFault, base_fault_line, begin};
+pub use beginning::{BaseFault, base_fault, base_fault_line, begin};

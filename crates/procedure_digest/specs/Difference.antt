@@ -13,6 +13,11 @@ is_same_session None (Some script) = false
 is_same_session (Some log) None = false
 is_same_session (Some log) (Some script) = log == script
 
+-- whether both have as many data components and procedures, and the same session: only the digests may differ
+abbrev pub is_same_but_digest : Header → Header → Bool
+is_same_but_digest log script =
+    if log.dcs == script.dcs then (if log.procedures == script.procedures then is_same_session log.session script.session else false) else false
+
 -- of two headers that differ: the first in which they do of the number of data components, that of procedures, the session and the digest
 abbrev pub other_line : Header → Header → List ℕ
 other_line log script =

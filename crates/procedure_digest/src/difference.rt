@@ -1,13 +1,13 @@
 // In what a log of others differs.
 
 ghost use Rattle.std.specs.Prelude.{◌≡◌, IfOk, string_bytes};
-ghost use Rattle.procedure_digest.specs.Difference.{is_same_session, other_line};
+ghost use Rattle.procedure_digest.specs.Difference.{is_same_session, is_same_but_digest, other_line};
 
 use log_file::Header;
 use std::alloc::{AllocError, Global};
 
-// Whether both have the same session, or none.
-fn is_same_session(log: &Option<u64>, script: &Option<u64>) -> bool
+/// Whether both have the same session, or none.
+pub fn is_same_session(log: &Option<u64>, script: &Option<u64>) -> bool
     ensures { result ≡ is_same_session log.now script.now }
 {
     match (log, script) {
@@ -15,6 +15,17 @@ fn is_same_session(log: &Option<u64>, script: &Option<u64>) -> bool
         (Some(log), Some(script)) => log == script,
         _ => false,
     }
+}
+
+/// Whether both have as many data components and procedures, and the same session: of two headers that differ, whether
+/// their digests alone do.
+pub fn is_same_but_digest(log: &Header, script: &Header) -> bool
+    ensures { result ≡ is_same_but_digest log.now script.now }
+{
+    if log.dcs == script.dcs && log.procedures == script.procedures {
+        return is_same_session(&log.session, &script.session);
+    }
+    false
 }
 
 /// The line that refuses a log that has another header than a script's procedures: the first in which they

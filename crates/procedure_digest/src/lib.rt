@@ -14,6 +14,6 @@ mod difference;
 mod header;
 mod laws;
 
-pub use difference::other_line;
+pub use difference::{is_same_but_digest, is_same_session, other_line};
 pub use header::{header_of, header_of_session};
 pub use laws::procedures_tell;

@@ -1,3 +1,4 @@
 pub mod AnewLemmas
 pub mod LoggedLemmas
 pub mod RecoveringLemmas
+pub mod UpgradeLemmas

@@ -7,6 +7,7 @@ use Rattle.data_component.specs.Sorted.{Rows}
 use Rattle.data_component.specs.Keeping.{AreRowsOf}
 use Rattle.data_component.specs.Store.{Store}
 use Rattle.disk_file.specs.Disk.{disk_bytes, left_of}
+use Rattle.log_file.specs.declared.header.Header.{Header}
 use Rattle.log_journal.specs.Keeping.{HasWrittenBehind}
 use Rattle.tc_core.specs.Core.{Core}
 use Rattle.tc_world.specs.Cutting.{IsCut, IsUncut}
@@ -24,6 +25,10 @@ use Rattle.run_ground.specs.Kept.{FileJournal, IsOver}
 abbrev pub AreAllRows : List Store → Rows → Type 0
 AreAllRows [] rows = rows ≡ []
 AreAllRows (s ∷ dcs) rows = (own : Rows) × (others : Rows) × (rows ≡ own ++ others) × AreRowsOf own s.base s.list × AreAllRows dcs others
+
+-- the journal's file has this header, these records and, behind them, this log on the disk, whole
+abbrev pub HasWrittenAnew : Header → Rows → List Event → FileJournal → Type 0
+HasWrittenAnew h base events j = (j.header ≡ h) × HasWrittenBehind disk_bytes left_of h (Some base) j.file (reverse events)
 
 -- the journal's file has these data components' rows and, behind them, this log on the disk, whole
 pub record HasBegunAnew (dcs : List Store) (events : List Event) (j : FileJournal) : Type 0 where

@@ -9,7 +9,7 @@ use Rattle.log_file.specs.declared.reading.OpenFault.TheVariants.{Frames, Empty,
 use Rattle.log_file.specs.declared.header.Header.{Header}
 use Rattle.log_file.specs.declared.stored.Stored.{Stored}
 use Rattle.log_file.specs.Stored.{IsStored, IsFileFault}
-use Rattle.procedure_digest.specs.Difference.{other_line}
+use Rattle.procedure_digest.specs.Difference.{is_same_but_digest, other_line}
 use Rattle.tc_core.specs.declared.checking.CheckFault.TheVariants as check
 use Rattle.tc_core.specs.declared.recovery.RecoverFault.TheVariants.{Begun, DcCount, Unfit, Forgotten}
 use Rattle.coming_back.specs.declared.coming.ComeBackFault.{ComeBackFault}
@@ -29,9 +29,14 @@ open_refusal (NoBase number) = Some (codes "refused log NoBase frame " ++ (decim
 open_refusal (NoBatch number) = Some (codes "refused log NoBatch frame " ++ (decimal number ++ codes "\n"))
 open_refusal (Row place) = Some (codes "refused log L2 Kind " ++ (decimal place ++ codes "\n"))
 
+-- a log of others, by what differs; of one that only other procedures keep from being gone on from, what lets them
+abbrev pub others_line : Header → Header → List ℕ
+others_line log script =
+    if is_same_but_digest log script then codes "refused log Other digest: checkpoint it with its own procedures first\n" else other_line log script
+
 -- a file that is no log of the script with this header: a log of others, by what differs in its header; or what isn't read by itself
 pub data IsOtherRefusal (script : Header) (file : List ℕ) (lines : List ℕ) : Type 0 where
-  Anothers : (s : Stored) → IsStored file s → lines ≡ other_line s.header script → IsOtherRefusal script file lines
+  Anothers : (s : Stored) → IsStored file s → lines ≡ others_line s.header script → IsOtherRefusal script file lines
   Nobodys : (fault : OpenFault) → IsFileFault file fault → lines ≡ codes "refused log Other\n" → IsOtherRefusal script file lines
 
 -- the line of a fault, which of a log of others, and of no log, depends on the file

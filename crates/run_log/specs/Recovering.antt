@@ -31,6 +31,8 @@ use Rattle.run_log.specs.declared.recovering.Recovery.{Recovery}
 use Rattle.run_log.specs.declared.recovering.Recovery.TheVariants.{Ready, Refused}
 use Rattle.run_log.specs.LogLines.{back_lines, IsOpenRefusal, kind_refusal, back_refusal, overfull_refusal}
 use Rattle.run_ground.specs.Kept.{KeepsLog}
+use Rattle.run_log.specs.declared.upgrade.StoredCheckpoint.{StoredCheckpoint}
+use Rattle.run_log.specs.Checkpoint.{IsCheckpointIn}
 
 -- ---- what is gone on from
 
@@ -68,7 +70,8 @@ overfull dcs resumed = if list_any is_in_doubt resumed then None else position i
 -- ---- what is printed
 
 -- another process has the file open; or there is no file of bytes; or it isn't read; or data components don't begin with the records that it
--- begins with; or its log isn't gone on from, or leaves a data component with more records than it has room for
+-- begins with, also of one that says nothing of its procedures; or its log isn't gone on from, or leaves a data component with more records
+-- than it has room for
 pub data IsLogRefusal (start : Core) (empties : List Store) (lines : List ℕ) : Type 0 where
   Busy : lines ≡ codes "refused log Busy\n" → IsLogRefusal start empties lines
   NotAFile : (kind : FileKind) → lines ≡ kind_refusal kind → IsLogRefusal start empties lines
@@ -76,6 +79,8 @@ pub data IsLogRefusal (start : Core) (empties : List Store) (lines : List ℕ) :
       → IsOpenRefusal (header_of (loaded_in start)) file fault lines → IsLogRefusal start empties lines
   Baseless : (file : List ℕ) (base : Option Rows) (log : List Event) (fault : BaseFault) → IsLogFor start file base log
       → IsUnbegun base empties fault → lines ≡ base_fault_line fault → IsLogRefusal start empties lines
+  Crowded : (file : List ℕ) (c : StoredCheckpoint) (fault : BaseFault) → IsCheckpointIn (header_of (loaded_in start)) file c
+      → IsUnbegun (Some c.base.items) empties fault → lines ≡ base_fault_line fault → IsLogRefusal start empties lines
   Unfit : (file : List ℕ) (base : Option Rows) (log : List Event) (begun : List Store) (after : Core) (dcs : List Store) (fault : ComeBackFault)
       → IsLogFor start file base log → HaveBegun base (reverse log) empties begun → IsFaultOf start log (length begun) after dcs fault
       → back_refusal fault ≡ Some lines → IsLogRefusal start empties lines

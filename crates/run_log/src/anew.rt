@@ -5,13 +5,13 @@ ghost use Rattle.data_component.specs.Store.{Store};
 ghost use Rattle.tc_core.specs.Core.{Core};
 ghost use Rattle.tc_world.specs.Cutting.{IsUncut};
 ghost use Rattle.run_log.specs.declared.anew.Renewal.TheVariants.{Unwanted};
-ghost use Rattle.run_log.specs.Anew.{AreAllRows, HasBegunAnew, IsBar, IsHeeded, IsRenewal, renewal_line};
+ghost use Rattle.run_log.specs.Anew.{AreAllRows, HasWrittenAnew, HasBegunAnew, IsBar, IsHeeded, IsRenewal, renewal_line};
 ghost use Rattle.run_ground.specs.Kept.{IsOver, KeepsLog};
 ghost use Rattle.run_ground.specs.declared.stop.Stop.TheVariants as Stop;
 ghost use Rattle.run_ground.specs.Stops.{IsUnkept};
 
 use data_component::dc::Dc;
-use disk_file::{Beside, BesideError, FileFault, OpenError, PlaceError};
+use disk_file::{Beside, BesideError, DiskFile, FileFault, OpenError, PlaceError};
 use log_file::{BaseRow, Header, may_be_left};
 use log_journal::LogJournal;
 use run_ground::ground::{FileJournal, Ground};
@@ -105,31 +105,32 @@ fn base_of(alloc: Global, dcs: &[Dc]) -> Result<Vec<BaseRow>, AllocError>
     Ok(base)
 }
 
-// The file beside the log's, if its bytes are what a run left that was cut short, or none.
+// The file beside the log's, if its bytes are what a run left that was cut short, under one of these headers, or none.
 fn if_left(
     alloc: Global,
-    header: &Header,
+    headers: &[Header],
     beside: Beside,
     bytes: Vec<u8>,
 ) -> Result<Option<Beside>, AllocError> {
-    if may_be_left(alloc, header, &bytes)? {
-        Ok(Some(beside))
-    } else {
-        drop(beside);
-        Ok(None)
+    'headers: for header in headers {
+        if may_be_left(alloc, header, &bytes)? {
+            return Ok(Some(beside));
+        }
     }
+    drop(beside);
+    Ok(None)
 }
 
 // Opens the file beside the log's, if it may be written over: it is empty, or what a run left that was cut
-// short.
-fn open_beside<F: Files<File = File>>(
+// short, under one of these headers.
+pub(crate) fn open_beside<F: Files<File = File>>(
     rt: &F,
     alloc: Global,
     path: &str,
-    journal: &FileJournal,
+    headers: &[Header],
 ) -> Result<Option<Beside>, AllocError> {
     match Beside::open(rt, alloc, path) {
-        Ok((beside, bytes)) => if_left(alloc, journal.header(), beside, bytes),
+        Ok((beside, bytes)) => if_left(alloc, headers, beside, bytes),
         Err(BesideError::Open(OpenError::Memory)) => Err(AllocError),
         Err(_) => Ok(None),
     }
@@ -156,38 +157,68 @@ fn unplaced(error: PlaceError) -> Stop
     }
 }
 
-// Writes the log and the records of the data components into the file beside the journal's.
+// What a log that begins anew has: whose it is, the records of its data components, and what follows them.
+#[derive(Clone, Copy)]
+pub(crate) struct NewLog<'a> {
+    pub header: Header,
+    pub base: &'a [BaseRow],
+    pub log: &'a Log,
+}
+
+// Writes it into the file beside the old one.
 fn write_beside<F: Files<File = File>>(
     rt: &F,
     alloc: Global,
     path: &str,
     beside: Beside,
-    journal: &FileJournal,
-    log: &Log,
-    dcs: &[Dc],
+    old: &DiskFile,
+    new: NewLog,
 ) -> Result<FileJournal, Stop>
-    ensures kept { IfOk result (λ new. HasBegunAnew dcs.now log.now.events new) }
+    ensures written { IfOk result (HasWrittenAnew new.entry.header new.entry.base.now new.entry.log.now.events) }
     ensures fault { IfErr result (IsUnkept true) }
 {
-    let base = base_of(alloc, dcs)?;
-    let device = match beside.emptied(rt, alloc, path, journal.device()) {
+    let device = match beside.emptied(rt, alloc, path, old) {
         Ok(device) => device,
         Err(error) => return Err(unopened(error)),
     };
-    let header = *journal.header();
-    let (new, kept) = LogJournal::begin_anew(alloc, device, header, base.as_slice(), log);
+    let (journal, kept) = LogJournal::begin_anew(alloc, device, new.header, new.base, new.log);
     match kept {
-        Ok(()) => Ok(new),
+        Ok(()) => Ok(journal),
         Err(why) => {
-            new.device().give_up_place(rt, alloc, path);
-            let failure = new.device().failure();
-            drop(new);
+            journal.device().give_up_place(rt, alloc, path);
+            let failure = journal.device().failure();
+            drop(journal);
             Err(Stop::unkept(why, failure))
         }
     }
 }
 
-// Writes them, and puts that file in the place of the journal's.
+// Writes it, and puts that file in the place of the old one.
+pub(crate) fn replace<F: Files<File = File>>(
+    rt: &F,
+    alloc: Global,
+    path: &str,
+    beside: Beside,
+    old: &DiskFile,
+    new: NewLog,
+) -> Result<FileJournal, Stop>
+    ensures written { IfOk result (HasWrittenAnew new.entry.header new.entry.base.now new.entry.log.now.events) }
+    ensures fault { IfErr result (IsUnkept true) }
+{
+    let journal = write_beside(rt, alloc, path, beside, old, new)?;
+    match journal.device().take_place(rt, alloc, path, old) {
+        Ok(()) => Ok(journal),
+        Err(error) => {
+            if let PlaceError::Kept(_) = error {
+                journal.device().give_up_place(rt, alloc, path);
+            }
+            drop(journal);
+            Err(unplaced(error))
+        }
+    }
+}
+
+// Writes the log and the records of the data components into a file that takes the place of the journal's.
 fn write_anew<F: Files<File = File>>(
     rt: &F,
     alloc: Global,
@@ -200,20 +231,16 @@ fn write_anew<F: Files<File = File>>(
     ensures kept { OnOk result (HasBegunAnew dcs.now log.now.events journal.new) }
     ensures fault { IfErr result (IsUnkept true) }
 {
-    let new = write_beside(rt, alloc, path, beside, journal, log, dcs)?;
-    match new.device().take_place(rt, alloc, path, journal.device()) {
-        Ok(()) => {
-            *journal = new;
-            Ok(())
-        }
-        Err(error) => {
-            if let PlaceError::Kept(_) = error {
-                new.device().give_up_place(rt, alloc, path);
-            }
-            drop(new);
-            Err(unplaced(error))
-        }
-    }
+    let base = base_of(alloc, dcs)?;
+    let new = NewLog {
+        header: *journal.header(),
+        base: base.as_slice(),
+        log,
+    };
+    let replaced = replace(rt, alloc, path, beside, journal.device(), new);
+    drop(base);
+    *journal = replaced?;
+    Ok(())
 }
 
 // Takes the file beside the log's away again.
@@ -243,7 +270,7 @@ fn begin_anew<F: Files<File = File>>(
     ensures tried { IfOk result (λ renewal. renewal ≡ Unwanted → ⊥) }
     ensures fault { IfErr result (IsUnkept true) }
 {
-    let Some(beside) = open_beside(rt, alloc, path, journal)? else {
+    let Some(beside) = open_beside(rt, alloc, path, &[*journal.header()])? else {
         return Ok(Renewal::Barred(Bar::InTheWay));
     };
     match cut(alloc, state, dcs) {

@@ -13,3 +13,4 @@
 pub mod anew;
 mod log_lines;
 pub mod recovering;
+pub mod upgrade;

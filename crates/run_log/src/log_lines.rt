@@ -1,18 +1,31 @@
 //! The lines that say how a run goes on from a log's file, and why it doesn't.
 
 ghost use Rattle.std.specs.Prelude.{◌≡◌, ◌++◌, IfOk, OnOk, option_map, string_bytes};
-ghost use Rattle.run_log.specs.LogLines.{open_refusal, IsOtherRefusal, overfull_refusal, kind_word, kind_refusal, back_refusal};
+ghost use Rattle.run_log.specs.LogLines.{others_line, open_refusal, IsOtherRefusal, overfull_refusal, kind_word, kind_refusal, back_refusal};
 ghost use Rattle.run_log.specs.LogLines.{recovered_line, dropped_line, resumed_line, resumed_lines, back_lines};
 
 use coming_back::{ComeBackFault, Resumed};
 use disk_file::FileKind;
 use frame_file::FrameFault;
 use log_file::{Header, OpenFault, read_file};
-use procedure_digest::other_line;
+use procedure_digest::{is_same_but_digest, other_line};
 use state_lines::operation_texts::outcome_text;
 use std::alloc::{AllocError, Global};
 use tc_core::checking::CheckFault;
 use tc_core::recovery::RecoverFault;
+
+// The line of a log of others. Where their procedures alone differ, it says what lets others go on from it.
+fn others_line(alloc: Global, log: &Header, script: &Header) -> Result<String, AllocError>
+    ensures { IfOk result (λ line. string_bytes line ≡ others_line log.now script.now) }
+{
+    if is_same_but_digest(log, script) {
+        return String::from_str(
+            alloc,
+            "refused log Other digest: checkpoint it with its own procedures first\n",
+        );
+    }
+    other_line(alloc, log, script)
+}
 
 /// The line that refuses a file that is no log of the script with this header: in what the log's header
 /// differs, where the file is a log.
@@ -20,7 +33,7 @@ pub fn other_refusal(alloc: Global, header: &Header, file: &[u8]) -> Result<Stri
     ensures { IfOk result (λ line. IsOtherRefusal header.now file.now (string_bytes line)) }
 {
     match read_file(alloc, file) {
-        Ok(stored) => other_line(alloc, &stored.header, header),
+        Ok(stored) => others_line(alloc, &stored.header, header),
         Err(_) => String::from_str(alloc, "refused log Other\n"),
     }
 }

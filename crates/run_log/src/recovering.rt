@@ -17,8 +17,10 @@ ghost use Rattle.log_file.specs.Found.{base_in};
 ghost use Rattle.run_ground.specs.Kept.{KeepsLog};
 ghost use Rattle.run_log.specs.Joining.Opening.{IsUnfit, IsComing};
 ghost use Rattle.run_log.specs.Recovering.{is_in_doubt, overfull, IsLogFor, IsLogRefusal, IsBegun, IsGoingBack, IsOpened, IsOpening};
+ghost use Rattle.run_log.specs.declared.recovering.Recovery.TheVariants.{Refused};
 
 pub use crate::log_lines::kind_refusal;
+use crate::upgrade::{Upgrade, upgrade_log};
 use crate::log_lines::{back_lines, back_refusal, open_refusal, other_refusal, overfull_refusal};
 use base_records::{base_fault_line, begin as begin_with};
 use coming_back::{ComeBackFault, Resumed, come_back};
@@ -333,7 +335,43 @@ pub fn go_back(
     }
 }
 
-/// Opens the log's file and goes on from its log.
+// What comes of a log that was refused so.
+fn if_upgraded<F: Files<File = File>>(
+    rt: &F,
+    alloc: Global,
+    path: &str,
+    state: &TcState,
+    dcs: &[Dc],
+    report: Output,
+) -> Result<Recovery<OpenLog>, Stop>
+    requires { IsOpening state.now dcs.now (Refused report) }
+    ensures { IfOk result (IsOpening state.now dcs.now) }
+{
+    match upgrade_log(rt, alloc, path, state, dcs)? {
+        Upgrade::Done(opened) => Ok(Recovery::Ready(opened)),
+        Upgrade::Unfit(fault) => Ok(Recovery::Refused(Output::refusal(base_fault_line(alloc, fault)?))),
+        Upgrade::Bound => Ok(Recovery::Refused(report)),
+    }
+}
+
+// Opens the log's file, also one of other procedures that says nothing of them.
+fn open_or_upgrade<F: Files<File = File>>(
+    rt: &F,
+    alloc: Global,
+    path: &str,
+    state: &TcState,
+    dcs: &[Dc],
+) -> Result<Recovery<OpenLog>, Stop>
+    ensures { IfOk result (IsOpening state.now dcs.now) }
+{
+    match open_log(rt, alloc, path, state)? {
+        Recovery::Ready(opened) => Ok(Recovery::Ready(opened)),
+        Recovery::Refused(report) => if_upgraded(rt, alloc, path, state, dcs, report),
+    }
+}
+
+/// Opens the log's file and goes on from its log. One of other procedures goes on under those of the state if it says
+/// nothing of its own ([`upgrade_log`]).
 pub fn begin<F: Files<File = File>>(
     rt: &F,
     alloc: Global,
@@ -344,7 +382,7 @@ pub fn begin<F: Files<File = File>>(
     requires { All HasOnlyRows dcs.old }
     ensures { IfOk result (IsBegun state.old dcs.old state.new dcs.new) }
 {
-    match open_log(rt, alloc, path, state)? {
+    match open_or_upgrade(rt, alloc, path, state, dcs)? {
         Recovery::Ready(opened) => go_back(alloc, state, dcs, opened, path),
         Recovery::Refused(report) => Ok(Recovery::Refused(report)),
     }
