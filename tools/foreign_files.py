@@ -17,6 +17,7 @@ import random
 import subprocess
 import sys
 import tempfile
+import time
 
 from built import PROCD
 from log_files import batch, event, frame, frames, header, procedure
@@ -130,6 +131,26 @@ def devices_are_refused(program, script, folder):
     return None
 
 
+def begun_otherwise(program, script, folder):
+    """Files of 2 GiB that don't begin as a log does: refused at once, in little memory."""
+    path = folder / "huge"
+    for first in b"", SQLITE, b"a text\n" * 20, frames(OWN)[:16].replace(b"@", b"A"):
+        path.write_bytes(first)
+        os.truncate(path, 2 << 30)
+        for words in ["log", path], ["log", "--tail", "1", path], ["log", "--rows", path], ["log", "--audit", path, script]:
+            with open(folder / "said", "wb+") as said:
+                began = time.monotonic()
+                process = os.posix_spawn(program.path, [program.path, *map(str, words)], os.environ, file_actions=[(os.POSIX_SPAWN_DUP2, said.fileno(), 1)])
+                _, status, used = os.wait4(process, 0)
+                took = time.monotonic() - began
+                said.seek(0)
+                ended = os.waitstatus_to_exitcode(status), said.read()
+            if ended != (1, b"refused log Other\n") or took > 2 or used.ru_maxrss > 100_000:
+                return f"{words}: {ended}, {took:.1f} s, {used.ru_maxrss} kB"
+    path.unlink()
+    return None
+
+
 def main():
     options = argparse.ArgumentParser(usage=__doc__)
     options.add_argument("--files", type=int, default=2000)
@@ -141,7 +162,7 @@ def main():
         folder = pathlib.Path(name)
         program = Program(options.procd, folder)
         script = program.file(SCRIPT.encode())
-        wrong = devices_are_refused(program, script, folder)
+        wrong = devices_are_refused(program, script, folder) or begun_otherwise(program, script, folder)
         for turn in range(options.files):
             if wrong:
                 break

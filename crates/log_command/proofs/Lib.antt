@@ -1,3 +1,4 @@
+pub mod FrontLemmas
 pub mod EventLemmas
 pub mod FollowLemmas
 pub mod FurtherLemmas

@@ -1,3 +1,4 @@
+pub mod Front
 pub mod EventLines
 pub mod Following
 pub mod LogReport

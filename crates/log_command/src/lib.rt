@@ -12,6 +12,7 @@
 pub mod auditing;
 mod event_lines;
 pub mod following;
+pub mod front;
 mod further;
 pub mod listing;
 pub mod picturing;

@@ -26,7 +26,7 @@ use log_part::Part;
 use partitioned_run::running::file_of;
 use program_files::explaining::explain;
 use program_files::following::{End, follow};
-use program_files::reading::{MOST_CODE, ReadFault, Reason, read_given};
+use program_files::reading::{Kind, ReadFault, Reason, read_given};
 use program_files::writing::tell;
 use report_texts::output::Output;
 use run_ground::stop::Stop;
@@ -306,11 +306,12 @@ fn way_of<F: Files<File = File>>(rt: &F, wanted: &Wanted) -> Way
     }
 }
 
-// How many bytes are read at most of code.
-fn most_of_code(task: &Task) -> Option<usize> {
+// What the file of a task has to be.
+fn kind_of_file(task: &Task) -> Kind {
     match task {
-        Task::Exec { .. } | Task::Dis { .. } => Some(MOST_CODE),
-        _ => None,
+        Task::Exec { .. } | Task::Dis { .. } => Kind::Code,
+        Task::Log(_) => Kind::Log,
+        _ => Kind::Other,
     }
 }
 
@@ -329,7 +330,7 @@ fn run_wanted<F: Files<File = File> + Clock + Threads + Wait + Sync, R: Read, W:
     match way_of(rt, wanted) {
         Way::Refused(kind) => refuse_kind(alloc, kind, streams),
         Way::Followed(part) => run_on(rt, alloc, wanted.file, part, streams),
-        Way::Read => match read_given(rt, alloc, wanted.file, input, most_of_code(&wanted.task)) {
+        Way::Read => match read_given(rt, alloc, wanted.file, input, kind_of_file(&wanted.task)) {
             Ok(text) => {
                 let text = text.as_slice();
                 let report = report_on(rt, alloc, &wanted.task, text, streams.progress);
