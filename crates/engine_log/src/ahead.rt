@@ -21,6 +21,9 @@ use procedure_digest::header_of_session;
 use std::alloc::{AllocError, Global};
 use tc_core::{SiteNote, TcState};
 
+// The bytes of a frame's head.
+const HEAD: usize = 24;
+
 /// Why nothing is handed out.
 #[derive(Clone, Copy, Debug, PartialEq, Eq)]
 pub enum AheadFault {
@@ -239,7 +242,7 @@ fn batch_frame(
     ensures fits { IfOk result (λ _. IsPayload (batch_bytes (record { notes = notes.now; rows = rows.now }))) }
 {
     let payload = batch_bytes(alloc, notes, rows)?;
-    let mut frame = Vec::new(alloc);
+    let mut frame = Vec::with_capacity(alloc, HEAD + payload.len())?;
     write_frame(&mut frame, number, &payload)?;
     Ok(frame)
 }
