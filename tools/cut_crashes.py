@@ -1,5 +1,5 @@
 #!/usr/bin/env python3
-"""Kills `procd run --log LOG --checkpoint` while LOG begins anew, and looks whether anything that it told is lost.
+"""Kills `procd run --log LOG --checkpoint --stats` while LOG begins anew, and looks whether anything that it told is lost.
 
 usage: tools/cut_crashes.py [--kills N] [--seed N] [--upgrade] [--forget | --control] [--procd PATH]
 
@@ -101,7 +101,7 @@ class Runs:
         script = self.folder / "calls.txt"
         script.write_text(VERSIONS[self.version] + "".join(f"call put {key} {value_of(key)}\n" for key in keys))
         self.next = keys.stop
-        words = ["run", "--log", str(self.log), "--checkpoint", "--checkpoint-over", "0", "--tell", "--workers", self.draw.choice("148"), str(script)]
+        words = ["run", "--log", str(self.log), "--checkpoint", "--checkpoint-over", "0", "--tell", "--stats", "--workers", self.draw.choice("148"), str(script)]
         before = self.log.stat().st_ino if self.log.exists() else None
         with open(self.folder / "err", "w+", encoding="utf-8") as err:
             with subprocess.Popen([self.options.procd, *words], stdout=subprocess.DEVNULL, stderr=err, env=self.environment()) as process:
@@ -112,7 +112,10 @@ class Runs:
             told = err.read()
         if status not in (-9, 0):
             raise Wrong(f"status {status}: {told[-500:]}")
-        self.told |= {keys[int(call)] for call, how in TOLD.findall(told) if how == "committed"}
+        answers = TOLD.findall(told)
+        if undone := [(call, how) for call, how in answers if how != "committed"]:
+            raise Wrong(f"calls that aren't committed: {undone[:10]}")
+        self.told |= {keys[int(call)] for call, _ in answers}
         self.counts["ended before" if status == 0 else "LOG.new there" if self.new.exists() else "no LOG.new"] += 1
         self.counts["LOG is another file" if self.log.exists() and self.log.stat().st_ino != before else "LOG is the same"] += 1
 
