@@ -6,7 +6,7 @@ import socket
 import tempfile
 
 from log_files import base_row, batch, cut, event, frames, header, numbers, procedure
-from .row import Row
+from .row import CURE, Row
 
 SCRIPT = """\
 dc 1 100
@@ -214,6 +214,16 @@ CUT_OTHERS = [
     (cut(header(2, NOTE, NOTHING, version=2), [HERE], batch(BEGUN)), "procedures 2 script 3"),
     (cut(header(2, NOTE, KEEP, NOTHING, version=2), [base_row((9, 0, 0), b"")], batch(BEGUN)), "digest"),
 ]
+# Logs of other procedures that are a checkpoint alone, or nearly, and what a run says of them.
+UPGRADED = [
+    (cut(header(2, NOTE, NOTHING, version=2), [HERE], batch(BEGUN)), "recovered 1 events, 0 open\nrow 0/5/1 9\n"),
+    (cut(header(1, version=2), [HERE], batch(BEGUN)), "recovered 1 events, 0 open\nrow 0/5/1 9\n"),
+    (cut(header(2, NOTE, KEEP, NOTHING, version=2), [base_row((9, 0, 0), b"")], batch(BEGUN)), "refused log NoDc dc 9\n"),
+    (cut(header(2, NOTE, version=2), MANY[:3], batch(BEGUN)), "refused log NoRoom dc 1\n"),
+    (cut(header(3, NOTE, NOTHING, KEEP, version=2), [HERE], batch(BEGUN)), "refused log Other dcs 3 script 2\n"),
+    (cut(header(2, NOTE, KEEP, NOTHING, version=2), [HERE], batch(BEGUN)) + b"\3", f"refused log Other digest: {CURE}\n"),
+    (cut(header(2, NOTE, KEEP, NOTHING, version=2), [HERE], batch(BEGUN), batch(*ROWS)), f"refused log Other digest: {CURE}\n"),
+]
 # Logs that leave a data component of the script with more records than it has room for, or just as many.
 ROOM = {
     "dc 1 100\ndc 2 9\n": b"recovered 8 events, 0 open\nrow 1/2/1 0\nrow 1/2/2 0\n",
@@ -267,11 +277,16 @@ def rows(_program):
         yield Row([*audit, str(script)], given, f"refused {why}\n".encode(), 1)
     for given, differs in OTHERS + CUT_OTHERS:
         yield Row([*audit, str(script)], given, f"refused log Other {differs}\n".encode(), 1)
-    refusals = [(given, f"Other {differs}") for given, differs in OTHERS] + NOBODYS
+    cured = {"digest": f"digest: {CURE}"}
+    refusals = [(given, f"Other {cured.get(differs, differs)}") for given, differs in OTHERS] + NOBODYS
     for place, (given, why) in enumerate(refusals):
         log = pathlib.Path(folder.name, f"log{place}")
         log.write_bytes(given)
         yield Row(["run", "--log", str(log), str(script)], b"", f"refused log {why}\n".encode(), 1)
+    for place, (given, printed) in enumerate(UPGRADED):
+        log = pathlib.Path(folder.name, f"upgraded{place}")
+        log.write_bytes(given)
+        yield Row(["run", "--log", str(log), str(script)], b"", printed.encode(), int(printed.startswith("refused")))
     for place, (dcs, printed) in enumerate(ROOM.items()):
         smaller, log = pathlib.Path(folder.name, f"smaller{place}"), pathlib.Path(folder.name, f"room{place}")
         smaller.write_text(dcs + SCRIPT[SCRIPT.index("proc") :])
