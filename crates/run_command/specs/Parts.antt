@@ -1,5 +1,5 @@
 -- Calls that are answered in parts, between which the log may begin anew.
-use Rattle.std.specs.Prelude.{◌≡◌, ℕ, List, [], ◌∷◌, ◌++◌, length, Option, None, Bool, false, codes}
+use Rattle.std.specs.Prelude.{◌≡◌, ℕ, List, [], ◌∷◌, ◌++◌, length, Option, None, is_some, Bool, false, codes}
 use Rattle.data_component.specs.Store.{Store}
 use Rattle.scripts.specs.declared.script.Call as said
 use Rattle.tc_core.specs.Core.{Core}
@@ -95,6 +95,8 @@ AreOne over first calls first_answers other_answers lines stages = over ≡ None
 abbrev pub IsWanted : Checkpoints → Renewal → Type 0
 IsWanted checkpoints renewal = checkpoints.over ≡ None → checkpoints.at_end ≡ false → renewal ≡ Unwanted
 
--- the file has all of the last log on the disk, and that has begun anew where it is to, or is barred
-abbrev pub IsKeptSo : Option FileJournal → Checkpoints → Core → Renewal → Type 0
-IsKeptSo journal checkpoints last renewal = KeepsLog journal last.events × IsHeeded journal (over_at_end checkpoints) renewal
+-- a run that keeps its log has its journal after the last call, whose file has all of the last log on the disk; that has begun anew if it is
+-- to, or is barred
+abbrev pub IsKeptSo : (keeps : Bool) → Option FileJournal → Checkpoints → Core → Renewal → Type 0
+IsKeptSo keeps journal checkpoints last renewal =
+    (is_some journal ≡ keeps) × KeepsLog journal last.events × IsHeeded journal (over_at_end checkpoints) renewal

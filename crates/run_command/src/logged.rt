@@ -1,6 +1,6 @@
 //! `run --log`: the calls of a script, behind what a log's file has.
 
-ghost use Rattle.std.specs.Prelude.{◌≡◌, ◌++◌, Some, IfOk, OnOk, string_bytes};
+ghost use Rattle.std.specs.Prelude.{◌≡◌, ◌++◌, Some, is_some, IfOk, OnOk, string_bytes};
 ghost use Rattle.std.specs.List.{All};
 ghost use Rattle.script_loading.specs.Loading.{beginning_of};
 ghost use Rattle.scripts.specs.declared.keyword.Command.TheVariants as command;
@@ -61,6 +61,7 @@ fn renew_first<F: Files<File = File>>(
     ensures renewed { OnOk result (IsRenewedFirst ground.old lines.old over ground.new lines.new) }
     ensures kept { KeepsLog ground.old.journal ground.old.state.events
         → OnOk result (KeepsLog ground.new.journal ground.new.state.events) }
+    ensures same { is_some ground.new.journal ≡ is_some ground.old.journal }
 {
     match renew(rt, alloc, path, over, ground) {
         Ok(renewal) => Ok(write_renewal(alloc, renewal, &ground.state, lines)?),

@@ -305,6 +305,7 @@ pub fn answer_parts<R: Files<File = File> + Clock + Threads + Wait + Sync>(
     ensures ended { IfOk result (HasEnded input.entry.manner.results ground.state ground.dcs.items
         input.entry.first.now input.entry.calls.now input.entry.checkpoints) }
     ensures kept { KeepsLog ground.journal ground.state.events → IfOk result (λ o. KeepsLog o.ground.journal o.ground.state.events) }
+    ensures same { IfOk result (λ o. is_some o.ground.journal ≡ is_some ground.journal) }
     ensures range { IfOk result (λ _. InRange input.entry.manner.workers input.entry.manner.tries) }
     ensures fault { IfErr result (Stops (is_some ground.journal) input.entry.manner.workers input.entry.manner.tries) }
 {

@@ -7,7 +7,7 @@ pub returns-in-Ok-run_from : goal.returns-in-Ok-run_from
 returns-in-Ok-run_from g c = λ kept.
     let first = c.in-Ok.ensures.renewed in
     let ground = c.renew_first.new.ground in
-    let ran = rw (c.as_slice.ensures.value, c.as_slice-2.ensures.value) at (c.in-Ok-run_from.ensures.run (c.in-Ok.ensures.kept kept)) in
+    let ran = rw (c.as_slice.ensures.value, c.as_slice-2.ensures.value, c.renew_first.ensures.same) at (c.in-Ok-run_from.ensures.run (c.in-Ok.ensures.kept kept)) in
     IfOk-weaker c.behind.result _ _ (λ r h. record {
       renewal = first.renewal;
       anew = ground.state;

@@ -1,7 +1,7 @@
 use Rattle.std.proofs.Common.{arith, ◌≡◌, ◌∙◌, ◌+◌, ap, length}
 use Rattle.std.specs.Prelude.{is_some}
 use Rattle.std.proofs.lemmas.List.{length-append}
-use Rattle.std.proofs.lemmas.Result.{err_from_is_err_and, IfErr-weaker}
+use Rattle.std.proofs.lemmas.Result.{err_from_is_err_and, IfOk-weaker, IfErr-weaker}
 use Rattle.run_command.proofs.PartsLemmas.{first_so_far, next_so_far, all_come, ended}
 use Rattle.run_calls.proofs.StopLemmas.{unkept_stops}
 use Rattle.run_command.proofs.parts.answer_parts.Goals as goal
@@ -83,6 +83,9 @@ returns-clause-ended g c =
     let last = c.renew_behind.ensures in
     ended input.manner.results ground.state ground.dcs.items input.first.now input.calls.now input.checkpoints over.result l.outcome
     c.renew_behind.result come over.ensures.over over.ensures.none last.renewed last.answers last.unwanted last.heeded
+
+pub returns-clause-same : goal.returns-clause-same
+returns-clause-same g c = IfOk-weaker c.renew_behind.result _ _ (λ o h. h ∙ c.parts.invariant.same) c.renew_behind.ensures.same
 
 pub returns-clause-fault : goal.returns-clause-fault
 returns-clause-fault g c =
