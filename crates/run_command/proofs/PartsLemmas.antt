@@ -87,7 +87,7 @@ module _ (results : Bool) (start : Core) (dcs : List Store) (over : Option ℕ) 
       let here = subst (λ (c : Core). IsMeasuredIf over c.procs dcs Unwanted (first ++ calls)) (sym state) measured in
       let room = subst (λ (ds : List Store). IsMeasuredIf over was.ground.state.procs ds Unwanted (first ++ calls)) (sym is_dcs) here in
       let led : HaveLed over results start dcs first calls s.first_answers s.other_answers s.lines now.ground.state now.ground.dcs.items stages = record {
-        lead = (was.ground.state, was.ground.dcs.items, (state, is_dcs), part, room);
+        lead = (was.ground.state, was.ground.dcs.items, (state, is_dcs), (part, room));
         first_are = refl;
         calls_are = refl;
         first_told = refl;
@@ -119,7 +119,7 @@ module _ (results : Bool) (start : Core) (dcs : List Store) (over : Option ℕ) 
       record {
         stages = Part first part s.first_answers s.other_answers s.lines ∷ Anew mid.renewal ∷ h.stages;
         led = record {
-          lead = (mid.ground.state, mid.ground.dcs.items, (was.ground.state, was.ground.dcs.items, h.led.lead, renewed), here, measured);
+          lead = (mid.ground.state, mid.ground.dcs.items, (was.ground.state, was.ground.dcs.items, h.led.lead, renewed), (here, measured));
           first_are = behind_those (in_all first_in h.stages) first first_done h.led.first_are;
           calls_are = behind_those (in_all calls_in h.stages) part done h.led.calls_are;
           first_told = behind_those (in_all first_told h.stages) s.first_answers mid.answers.first.items firsts ∙ sym s.first_told;
@@ -131,16 +131,16 @@ module _ (results : Bool) (start : Core) (dcs : List Store) (over : Option ℕ) 
 
 -- ---- all of them
 
-is_none : (rest : List Call) → length rest ≡ 0 → rest ≡ []
+pub is_none : (rest : List Call) → length rest ≡ 0 → rest ≡ []
 is_none [] none = refl
 is_none (x ∷ rest) none = absurd (omega (arith, none))
 
 -- where some are left, the log may begin anew between two parts
 may_renew : (over : Option ℕ) (first_rest rest : List Call) → 0 < length first_rest + length rest
     → (over ≡ None → (first_rest ≡ []) × (rest ≡ [])) → over ≡ None → ⊥
-may_renew over first_rest rest some none no =
-    let firsts : length first_rest ≡ 0 = ap length (none no).0 in
-    let others : length rest ≡ 0 = ap length (none no).1 in
+may_renew over first_rest rest some none unset =
+    let firsts : length first_rest ≡ 0 = ap length (none unset).0 in
+    let others : length rest ≡ 0 = ap length (none unset).1 in
     omega (arith, some, firsts, others)
 
 module _ (results : Bool) (g : Ground) (over : Option ℕ) (first calls : List Call) where
