@@ -1,7 +1,7 @@
 #!/usr/bin/env python3
 """Kills `procd run --log LOG --checkpoint --stats` while LOG begins anew, and looks whether anything that it told is lost.
 
-usage: tools/cut_crashes.py [--kills N] [--seed N] [--upgrade] [--forget | --control] [--procd PATH]
+usage: tools/cut_crashes.py [--kills N] [--seed N] [--upgrade] [--room N] [--forget | --control] [--procd PATH]
 
 Each run inserts new records, a call for each, and writes LOG anew before its first call and behind its last. It is killed
 a moment after LOG.new is seen, or right after it is gone again, and the next run goes on from what is left. Behind each
@@ -10,6 +10,9 @@ that no call inserts; `procd log --audit` says ok. What is left in LOG.new is in
 
 --upgrade: after each kill LOG goes on under other procedures. It is refused, and not changed, until a run of its own has
 left a checkpoint alone; the run that upgrades it is killed too, and the rows stay as they were.
+--room: the component has room for so many operations, fewer than a run makes, and LOG is written anew between calls too,
+before there may be none left.
+
 --forget: LOG.new stands behind forgetful.c: what is written to it and not synced is lost with the process, or some part of
 it is, torn anywhere. --control: syncs of it are lies, so this tool has to find that calls are lost.
 The status is 1 where something was wrong; the files are then kept.
@@ -33,9 +36,7 @@ from trying import preloaded
 RECORDS = 40_000  # of a file, before another one is begun
 CALLS = 200, 2_000  # so many a run makes
 LINGER = 0.004  # seconds behind a sight of LOG.new, at most
-SCRIPT = f"dc {RECORDS + CALLS[1]} {4 * RECORDS}\n" + PUT
-# The same, and other code that does the same.
-VERSIONS = SCRIPT, SCRIPT.replace("  mov r1, 0\n", "  mov r7, 1\n  mov r1, 0\n", 1)
+ANY_SIZE, NO_SIZE = "0", "1000000000"  # bytes, above which LOG is written anew
 REFUSED = "refused log Other digest: checkpoint it with its own procedures first\n"
 TOLD = re.compile(r"^told (\d+) (\w+)", re.MULTILINE)
 ROW = re.compile(r"^row 0/0/(\d+) (\d+)$", re.MULTILINE)
@@ -43,6 +44,12 @@ ROW = re.compile(r"^row 0/0/(\d+) (\d+)$", re.MULTILINE)
 
 class Wrong(Exception):
     """What was found."""
+
+
+def versions_of(room):
+    """A script whose component has room for so many operations, and the same with other code that does the same."""
+    script = f"dc {RECORDS + CALLS[1]} {room}\n" + PUT
+    return script, script.replace("  mov r1, 0\n", "  mov r7, 1\n  mov r1, 0\n", 1)
 
 
 def value_of(key):
@@ -58,6 +65,7 @@ class Runs:
         self.draw = random.Random(options.seed)
         self.counts = collections.Counter()
         self.files = 0
+        self.versions = versions_of(options.room or 4 * RECORDS)
         self.begin()
 
     def begin(self):
@@ -84,7 +92,8 @@ class Runs:
 
     def watch(self, process):
         """Waits for one of the moments at which the process is to be killed."""
-        seen = self.draw.choice((1, 1, 2))  # the file before the first call, or the one behind the last
+        # the file before the first call, or the one behind the last; or one between calls
+        seen = self.draw.randint(1, 9) if self.options.room else self.draw.choice((1, 1, 2))
         behind = self.draw.random() < 0.3
         is_there, sights = False, 0
         while process.poll() is None:
@@ -99,9 +108,10 @@ class Runs:
         """One run, killed; answers the keys that it was to insert."""
         keys = range(self.next, self.next + self.draw.randint(*CALLS))
         script = self.folder / "calls.txt"
-        script.write_text(VERSIONS[self.version] + "".join(f"call put {key} {value_of(key)}\n" for key in keys))
+        script.write_text(self.versions[self.version] + "".join(f"call put {key} {value_of(key)}\n" for key in keys))
         self.next = keys.stop
-        words = ["run", "--log", str(self.log), "--checkpoint", "--checkpoint-over", "0", "--tell", "--stats", "--workers", self.draw.choice("148"), str(script)]
+        over = NO_SIZE if self.options.room else ANY_SIZE
+        words = ["run", "--log", str(self.log), "--checkpoint", "--checkpoint-over", over, "--tell", "--stats", "--workers", self.draw.choice("148"), str(script)]
         before = self.log.stat().st_ino if self.log.exists() else None
         with open(self.folder / "err", "w+", encoding="utf-8") as err:
             with subprocess.Popen([self.options.procd, *words], stdout=subprocess.DEVNULL, stderr=err, env=self.environment()) as process:
@@ -125,7 +135,7 @@ class Runs:
             raise Wrong("there is no LOG")
         copy, empty = self.folder / "copy", self.folder / "empty.txt"
         shutil.copyfile(self.log, copy)
-        empty.write_text(VERSIONS[self.version])
+        empty.write_text(self.versions[self.version])
         rows = {int(key): int(value) for key, value in ROW.findall(self.run("run", "--log", str(copy), str(empty)))}
         if lost := self.told - rows.keys():
             raise Wrong(f"{len(lost)} calls that were told are lost, of {len(self.told)}: {sorted(lost)[:10]}")
@@ -148,7 +158,7 @@ class Runs:
     def upgrade(self, rows):
         """Has the file go on under the other procedures, with these rows."""
         other = self.folder / "others.txt"
-        other.write_text(VERSIONS[1 - self.version])
+        other.write_text(self.versions[1 - self.version])
         before = self.log.read_bytes()
         if (refused := self.others()) is not None:
             if refused != REFUSED or self.log.read_bytes() != before:
@@ -181,6 +191,7 @@ def main():
     parser = argparse.ArgumentParser(description=__doc__, formatter_class=argparse.RawDescriptionHelpFormatter)
     parser.add_argument("--kills", type=int, default=100)
     parser.add_argument("--seed", type=int, default=1)
+    parser.add_argument("--room", type=int)
     parser.add_argument("--procd", default=str(PROCD))
     parser.add_argument("--upgrade", action="store_true")
     how = parser.add_mutually_exclusive_group()

@@ -1,7 +1,8 @@
 #!/usr/bin/env python3
 """Runs reads over a data component that is full, ten times as many the second time: each call beyond its room is in doubt
 by the rule, the component and its count are named whatever the options, `--strict` says so by the status, and the run takes
-a processor's time in proportion.
+a processor's time in proportion. Where the log begins anew above a size, whatever that is, all calls commit, those of the
+first list too, and those of a run that comes back from the log.
 
 usage: tools/full_component.py [--procd PATH] [--reads N]
 
@@ -10,9 +11,11 @@ processors' time, which other work on the machine doesn't lengthen as it does th
 was wrong.
 """
 import argparse
+import pathlib
 import re
 import resource
 import sys
+import tempfile
 
 from built import PROCD
 from trying import Program
@@ -57,6 +60,20 @@ def check_told(program, faults):
             faults.append(f"{words}: status {ran.status}, and {ran.err!r}")
 
 
+def check_renewed(program, faults):
+    """Far more calls than there is room for, where the log begins anew before there is none."""
+    lines = [f"{word} look {i % 7}\n" for word in ("first", "call") for i in range(3 * ROOM)]
+    answers = "".join(f"{word} {i} committed\n" for word in ("first", "call") for i in range(3 * ROOM)).encode()
+    with tempfile.TemporaryDirectory(prefix="full-component-") as folder:
+        for over in ("0", "1000000000"):
+            log = pathlib.Path(folder) / f"log{over}"
+            for _ in range(2):
+                ran = program.run(["run", "--log", log, "--checkpoint-over", over, "--strict", "-"], (SCRIPT + "".join(lines)).encode())
+                told = b"".join(line for line in ran.out.splitlines(True) if line.startswith((b"first ", b"call ")))
+                if (ran.status, ran.err, told) != (0, b"", answers):
+                    faults.append(f"checkpoints over {over}: status {ran.status}, {told.count(b' committed')} committed, and {ran.err!r}")
+
+
 def main():
     words = argparse.ArgumentParser()
     words.add_argument("--procd", default=str(PROCD))
@@ -64,6 +81,7 @@ def main():
     asked = words.parse_args()
     faults, program = [], Program(asked.procd, None)
     check_told(program, faults)
+    check_renewed(program, faults)
     few, many = (seconds_of(program, n, faults) for n in (asked.reads, 10 * asked.reads))
     if many > MOST * few:
         faults.append(f"{asked.reads} reads took a processor {few:.2f} s and {10 * asked.reads} took {many:.2f} s")

@@ -13,6 +13,8 @@ ROWS = "row 0/0/1 7\nrow 0/0/2 9\n"
 # More calls than a part has: the log begins anew before the last of them.
 MANY = 65_540
 READS = "dc 4 100000\n" + PUT + GET + "first put 5 7\n" + MANY * "call get 5\n"
+# More calls than the component has room for.
+FEW = "dc 4 10\n" + PUT + GET + "first put 1 7\n" + 12 * "first get 1\n" + 20 * "call get 1\n"
 
 
 def rows(_program):
@@ -46,6 +48,10 @@ def rows(_program):
     answers = "".join(f"call {place} committed\nresult {place} 0 7\n" for place in range(MANY))
     told = f"no checkpoint G1 Nothing\nfirst 0 committed\n{answers}checkpoint {MANY + 1} {MANY + 1}\nrow 0/0/5 7\n"
     yield run("ten", told, "--checkpoint-over", "1", "--results", "--workers", "64", text=many)
+    few = place / "few"
+    few.write_text(FEW)
+    told = "".join(f"first {place} committed\n" for place in range(13)) + "".join(f"call {place} committed\nresult {place} 0 7\n" for place in range(20))
+    yield run("eleven", told + "row 0/0/1 7\n", "--checkpoint-over", "1000000", "--results", "--workers", "4", text=few)
     yield Row(["run", "--checkpoint", str(script)], b"", b"", 2, b"error: run takes --checkpoint and --checkpoint-over with --log alone")
     yield Row(["run", "--checkpoint-over", "9", str(script)], b"", b"", 2, b"error: run takes --checkpoint and --checkpoint-over with --log alone")
     yield Row(["run", "--log", str(place / "nine"), "--checkpoint-over", "x", str(script)], b"", b"", 2, no_number("--checkpoint-over <BYTES>", "x"))

@@ -105,7 +105,7 @@ behind_low : (journal : Option FileJournal) (checkpoints : Checkpoints) (start :
 behind_low journal checkpoints start empties first calls workers tries audit strict results status lines (Unopened fault when is line) = omega (arith, is)
 behind_low journal checkpoints start empties first calls workers tries audit strict results status lines (Refused why is) = omega (arith, is)
 behind_low journal checkpoints start empties first calls workers tries audit strict results status lines (GoneOn b) =
-    calls_low (IsKeptSo journal checkpoints) checkpoints b.on.anew b.on.anew_dcs first calls workers tries audit strict results status b.on.answers b.on.ran
+    calls_low (IsKeptSo true journal checkpoints) checkpoints b.on.anew b.on.anew_dcs first calls workers tries audit strict results status b.on.answers b.on.ran
 
 logged_low : (journal : Option FileJournal) (checkpoints : Checkpoints) (refusal : Option (List ℕ))
     (contents : Contents) (workers tries : ℕ) (audit strict results : Bool)

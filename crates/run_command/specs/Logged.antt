@@ -1,5 +1,5 @@
 -- The calls of a script whose log is kept in a file.
-use Rattle.std.specs.Prelude.{◌≡◌, ◌++◌, ℕ, Bool, false, List, length, reverse, Option, Some, None}
+use Rattle.std.specs.Prelude.{◌≡◌, ◌++◌, ℕ, Bool, true, false, List, length, reverse, Option, Some, None}
 use Rattle.tc_log.specs.declared.event.Event.{Event}
 use Rattle.base_records.specs.Beginning.{HaveBegun}
 use Rattle.data_component.specs.Store.{Store}
@@ -32,7 +32,7 @@ pub record IsRunOn (journal : Option FileJournal) (checkpoints : Checkpoints) (b
   pub renewed : IsRenewal back dcs anew anew_dcs renewal
   pub wanted : checkpoints.over ≡ None → renewal ≡ Unwanted
   pub answers : List ℕ
-  pub ran : IsCallsRun (IsKeptSo journal checkpoints) checkpoints anew anew_dcs first calls workers tries audit strict results status answers
+  pub ran : IsCallsRun (IsKeptSo true journal checkpoints) checkpoints anew anew_dcs first calls workers tries audit strict results status answers
   pub lines_are : lines ≡ (before ++ renewal_line anew.events renewal) ++ answers
 
 -- the lines of what came back, and behind them those of the calls

@@ -43,7 +43,7 @@ pub record ArePrinted (Kept : Core → Renewal → Type 0) (checkpoints : Checkp
   pub behind : Core
   pub behind_dcs : List Store
   pub stages : List Stage
-  pub led : HaveLed results start dcs first calls first_answers other_answers told behind behind_dcs stages
+  pub led : HaveLed checkpoints.over results start dcs first calls first_answers other_answers told behind behind_dcs stages
   pub one : AreOne checkpoints.over first calls first_answers other_answers told stages
   pub last : Core
   pub last_dcs : List Store

@@ -10,6 +10,7 @@
 //! ```
 #![tactic(auto)]
 
+mod fitting;
 pub mod logged;
 mod parts;
 pub mod running;

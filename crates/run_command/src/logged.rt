@@ -1,6 +1,6 @@
 //! `run --log`: the calls of a script, behind what a log's file has.
 
-ghost use Rattle.std.specs.Prelude.{◌≡◌, ◌++◌, Some, IfOk, OnOk, string_bytes};
+ghost use Rattle.std.specs.Prelude.{◌≡◌, ◌++◌, Some, is_some, IfOk, OnOk, string_bytes};
 ghost use Rattle.std.specs.List.{All};
 ghost use Rattle.script_loading.specs.Loading.{beginning_of};
 ghost use Rattle.scripts.specs.declared.keyword.Command.TheVariants as command;
@@ -9,6 +9,7 @@ ghost use Rattle.run_ground.specs.Kept.{KeepsLog};
 ghost use Rattle.run_command.specs.Logged.{IsRunOn, IsLoggedRun, IsLogged};
 ghost use Rattle.run_command.specs.Joining.Renewing.{IsRenewedFirst};
 
+use crate::fitting::over_before;
 use crate::running::{RunOptions, RunReport, run_from};
 use report_texts::output::Output;
 use run_calls::answering::RunInput;
@@ -60,6 +61,7 @@ fn renew_first<F: Files<File = File>>(
     ensures renewed { OnOk result (IsRenewedFirst ground.old lines.old over ground.new lines.new) }
     ensures kept { KeepsLog ground.old.journal ground.old.state.events
         → OnOk result (KeepsLog ground.new.journal ground.new.state.events) }
+    ensures same { is_some ground.new.journal ≡ is_some ground.old.journal }
 {
     match renew(rt, alloc, path, over, ground) {
         Ok(renewal) => Ok(write_renewal(alloc, renewal, &ground.state, lines)?),
@@ -127,14 +129,8 @@ fn run_on<R: Files<File = File> + Clock + Threads + Wait + Sync>(
         manner: options.manner,
         checkpoints: options.checkpoints,
     };
-    match renew_first(
-        rt,
-        alloc,
-        path,
-        options.checkpoints.over,
-        &mut ground,
-        &mut lines,
-    ) {
+    let over = over_before(&ground, options.checkpoints.over, input.first, input.calls);
+    match renew_first(rt, alloc, path, over, &mut ground, &mut lines) {
         Ok(()) => match run_from(rt, alloc, path, ground, input, options.listeners) {
             Ok(ran) => behind(rt, alloc, path, lines.as_str(), ran),
             Err(stop) => Err(stop),
@@ -195,8 +191,9 @@ fn run_behind<R: Files<File = File> + Clock + Threads + Wait + Sync>(
 /// data components begin with its records, if it was cut, and are redone, transactions that were open are run to
 /// their ends, and each is told by a line before those of the calls, which are new ones. No answer is told before
 /// what it names is on the disk, in a file that has a name. Where checkpoints are wanted, the log begins anew in a
-/// file that takes this one's place: the name has the one or the other, whatever the moment of a crash. There is no
-/// report where this path isn't the file's own behind the last call.
+/// file that takes this one's place: the name has the one or the other, whatever the moment of a crash. With
+/// checkpoints above a size it does so too before a data component may have no room for a call. There is no report where
+/// this path isn't the file's own behind the last call.
 pub fn running_logged<R: Files<File = File> + Clock + Threads + Wait + Sync>(
     rt: &R,
     alloc: Global,

@@ -1,20 +1,20 @@
 //! The calls of a script, answered in parts, between which the log may begin anew.
 
-ghost use Rattle.std.specs.Prelude.{◌≡◌, ◌++◌, ◌<◌, ℕ, Bool, List, [], length, None};
+ghost use Rattle.std.specs.Prelude.{◌≡◌, ◌++◌, ◌+◌, ◌<◌, ◌≤◌, ℕ, Bool, List, [], length, drop, None, false, IsTrue};
 ghost use Rattle.std.specs.Prelude.{is_some, IfOk, IfErr, IsOkAnd, OnOk, codes, string_bytes};
-ghost use Rattle.worker_pool.specs.Faults.{InRange, TriesFit};
-ghost use Rattle.run_calls.specs.AnswerLines.{answer_lines, call_lines};
+ghost use Rattle.worker_pool.specs.Faults.{InRange};
+ghost use Rattle.run_calls.specs.AnswerLines.{answer_line, lines_from, call_lines};
 ghost use Rattle.run_calls.specs.Answered.{AreCallsOf};
 ghost use Rattle.run_ground.specs.Kept.{KeepsLog};
 ghost use Rattle.run_log.specs.declared.anew.Renewal.TheVariants.{Unwanted};
-ghost use Rattle.run_ground.specs.declared.ground.Ground.{Ground as GroundValue};
-ghost use Rattle.run_log.specs.declared.anew.Renewal.{Renewal};
 ghost use Rattle.run_log.specs.Anew.{IsHeeded, IsRenewal};
 ghost use Rattle.run_ground.specs.Stops.{IsUnkept};
 ghost use Rattle.run_calls.specs.Stops.{Stops};
-ghost use Rattle.run_command.specs.Joining.Parts.{IsStep, HasEnded, with_ground};
+ghost use Rattle.run_command.specs.Fitting.{IsMeasured, IsMeasuredIf};
+ghost use Rattle.run_command.specs.Joining.Parts.{IsStep, HasEnded};
 
-use run_calls::answer_lines::{write_answers, write_calls};
+use crate::fitting::{over_before, part_length};
+use run_calls::answer_lines::{answer_line, write_calls};
 use run_calls::answering::{Answers, Rings, RunInput, answer_on};
 use run_calls::calls::calls_of;
 use run_calls::watching::Waits;
@@ -29,10 +29,7 @@ use std::sync::Wait;
 use std::thread::Threads;
 use std::time::Clock;
 use tc_core::state::Call;
-
-// So many calls of the second list a part has, where the log may begin anew between two: what lies between two
-// checkpoints is in memory.
-const PART: usize = 65_536;
+use worker_pool::Answer;
 
 /// What calls came to: what they were run on, behind the last, what they were answered, the lines of that, and what came
 /// of the log behind the last.
@@ -59,6 +56,25 @@ fn prepare(
     Ok((first, calls, rings))
 }
 
+// Adds the lines of the first list's calls behind so many of these answers.
+fn write_first(
+    alloc: Global,
+    answers: &[Answer],
+    before: usize,
+    lines: &mut String,
+) -> Result<(), AllocError>
+    requires { before ≤ length answers.now }
+    ensures { OnOk result (string_bytes lines.new ≡ string_bytes lines.old
+        ++ lines_from (answer_line (codes "first")) before (drop before answers.now)) }
+{
+    let (_, new) = answers.split_at(before);
+    for (index, answer) in new.iter().enumerate() {
+        let line = answer_line(alloc, "first", before + index, answer)?;
+        lines.push_str(line.as_str())?;
+    }
+    Ok(())
+}
+
 impl RunOutcome {
     // Of no call yet.
     fn new(alloc: Global, ground: Ground) -> RunOutcome
@@ -79,16 +95,15 @@ impl RunOutcome {
         ensures first { OnOk result (self.new.answers.first.items ≡ self.old.answers.first.items ++ more.first.items) }
         ensures calls { OnOk result (self.new.answers.calls.items ≡ self.old.answers.calls.items ++ more.calls.items) }
         ensures lines { OnOk result (string_bytes self.new.lines ≡ string_bytes self.old.lines
-            ++ (answer_lines (codes "first") more.first.items
+            ++ (lines_from (answer_line (codes "first")) (length self.old.answers.first.items) more.first.items
             ++ call_lines results self.old.ground.state.procs self.old.ground.state.events
             (length self.old.answers.calls.items) more.calls.items)) }
     {
-        if write_answers(alloc, "first", more.first.as_slice(), &mut self.lines).is_err() {
-            drop(more);
-            return Err(AllocError);
-        }
+        let first_before = self.answers.first.len();
         let before = self.answers.calls.len();
         self.answers.add(more)?;
+        let first = self.answers.first.as_slice();
+        write_first(alloc, first, first_before, &mut self.lines)?;
         write_calls(
             alloc,
             results,
@@ -111,7 +126,7 @@ fn add_answered(
     ensures ok { IfOk result (λ o. IsOkAnd answered (λ a. (o.ground ≡ a.0)
         × (o.answers.first.items ≡ answers.first.items ++ a.1.first.items)
         × (o.answers.calls.items ≡ answers.calls.items ++ a.1.calls.items)
-        × (string_bytes o.lines ≡ string_bytes lines ++ (answer_lines (codes "first") a.1.first.items
+        × (string_bytes o.lines ≡ string_bytes lines ++ (lines_from (answer_line (codes "first")) (length answers.first.items) a.1.first.items
         ++ call_lines results a.0.state.procs a.0.state.events (length answers.calls.items) a.1.calls.items)))) }
     ensures fault { (keeps : Bool) (workers tries : ℕ) → IfErr answered (Stops keeps workers tries)
         → IfErr result (Stops keeps workers tries) }
@@ -182,79 +197,72 @@ fn answer_part<R: Clock + Threads + Wait + Sync>(
     }
 }
 
-// Begins the log anew between two parts, where that is wanted, and answers the next: what came of it is looked at behind
-// the last.
-fn answer_next<R: Files<File = File> + Clock + Threads + Wait + Sync>(
-    rt: &R,
-    alloc: Global,
-    path: &str,
-    so_far: RunOutcome,
-    part: RunInput<script::Call>,
-    waits: &Waits,
-) -> Result<RunOutcome, Stop>
-    ensures step { IfOk result (λ o. (anew : GroundValue) × (renewal : Renewal)
-        × IsRenewal so_far.ground.state so_far.ground.dcs.items anew.state anew.dcs.items renewal
-        × IsHeeded anew.journal part.entry.checkpoints.over renewal
-        × IsStep part.entry.manner.results (with_ground so_far anew) part.entry.first.now part.entry.calls.now o) }
-    ensures kept { KeepsLog so_far.ground.journal so_far.ground.state.events
-        → IfOk result (λ o. KeepsLog o.ground.journal o.ground.state.events) }
-    ensures same { IfOk result (λ o. is_some o.ground.journal ≡ is_some so_far.ground.journal) }
-    ensures range { IfOk result (λ _. InRange part.entry.manner.workers part.entry.manner.tries) }
-    ensures fault { TriesFit part.entry.manner.tries
-        → IfErr result (Stops (is_some so_far.ground.journal) part.entry.manner.workers part.entry.manner.tries) }
+// The calls of a list that a part has, and the others.
+fn split<'a>(
+    ground: &Ground,
+    renewal: Renewal,
+    calls: &'a [script::Call],
+) -> (&'a [script::Call], &'a [script::Call])
+    ensures whole { calls.now ≡ result.0.now ++ result.1.now }
+    ensures fewer { 0 < length calls.now → length result.1.now < length calls.now }
+    ensures measured { IsMeasured ground.now.state.procs ground.now.dcs.items renewal result.0.now }
 {
-    let mut so_far = so_far;
-    match renew(rt, alloc, path, part.checkpoints.over, &mut so_far.ground) {
-        Ok(_renewal) => answer_part(rt, alloc, so_far, part, waits),
-        Err(stop) => {
-            drop(so_far);
-            Err(stop)
-        }
+    let dcs = ground.dcs.as_slice();
+    calls.split_at(part_length(ground.state.procs(), dcs, renewal, calls))
+}
+
+// The next part of the calls that are left, when this came of the log before them, and what is left after it. Where the
+// log may begin anew between two parts, a part has calls of one list.
+fn next_part<'a>(
+    ground: &Ground,
+    renewal: Renewal,
+    rest: RunInput<'a, script::Call>,
+) -> (RunInput<'a, script::Call>, RunInput<'a, script::Call>)
+    ensures first { rest.entry.first.now ≡ result.0.first.now ++ result.1.first.now }
+    ensures calls { rest.entry.calls.now ≡ result.0.calls.now ++ result.1.calls.now }
+    ensures fewer { 0 < length rest.entry.first.now + length rest.entry.calls.now
+        → length result.1.first.now + length result.1.calls.now < length rest.entry.first.now + length rest.entry.calls.now }
+    ensures measured { IsMeasuredIf rest.entry.checkpoints.over ground.now.state.procs ground.now.dcs.items renewal
+        (result.0.first.now ++ result.0.calls.now) }
+    ensures none { rest.entry.checkpoints.over ≡ None → (result.1.first.now ≡ []) × (result.1.calls.now ≡ []) }
+    ensures manner { (result.0.manner ≡ rest.entry.manner) × (result.0.checkpoints ≡ rest.entry.checkpoints) }
+    ensures others { (result.1.manner ≡ rest.entry.manner) × (result.1.checkpoints ≡ rest.entry.checkpoints) }
+{
+    if rest.checkpoints.over.is_none() {
+        let none = RunInput {
+            first: &[],
+            calls: &[],
+            ..rest
+        };
+        return (rest, none);
+    }
+    if rest.first.is_empty() {
+        let (calls, left) = split(ground, renewal, rest.calls);
+        return (RunInput { calls, ..rest }, RunInput { calls: left, ..rest });
+    }
+    let (first, left) = split(ground, renewal, rest.first);
+    let part = RunInput {
+        first,
+        calls: &[],
+        ..rest
+    };
+    (part, RunInput { first: left, ..rest })
+}
+
+// Whether no call is left.
+fn is_over(rest: &RunInput<script::Call>) -> bool
+    ensures over { IsTrue result → (length rest.now.first.now ≡ 0) × (length rest.now.calls.now ≡ 0) }
+    ensures more { result ≡ false → 0 < length rest.now.first.now + length rest.now.calls.now }
+{
+    if rest.first.is_empty() {
+        rest.calls.is_empty()
+    } else {
+        false
     }
 }
 
-// The first part: all calls, where the log isn't to begin anew between two. And what is left of the second list then.
-fn first_part<'a>(
-    input: RunInput<'a, script::Call>,
-) -> (RunInput<'a, script::Call>, &'a [script::Call])
-    ensures first { result.0.first.now ≡ input.entry.first.now }
-    ensures calls { input.entry.calls.now ≡ result.0.calls.now ++ result.1.now }
-    ensures one { input.entry.checkpoints.over ≡ None → (result.0.calls.now ≡ input.entry.calls.now) × (result.1.now ≡ []) }
-    ensures manner { (result.0.manner ≡ input.entry.manner) × (result.0.checkpoints ≡ input.entry.checkpoints) }
-{
-    let all = input.calls;
-    let most = match input.checkpoints.over {
-        Some(_) => PART.min(all.len()),
-        None => all.len(),
-    };
-    let (calls, rest) = all.split_at(most);
-    (RunInput { calls, ..input }, rest)
-}
-
-// The next part of those that are left, behind so many, and what is left then.
-fn next_part<'a>(
-    input: RunInput<'a, script::Call>,
-    rest: &'a [script::Call],
-    place: usize,
-) -> (RunInput<'a, script::Call>, &'a [script::Call])
-    requires { 0 < length rest.now }
-    ensures first { result.0.first.now ≡ [] }
-    ensures calls { rest.entry.now ≡ result.0.calls.now ++ result.1.now }
-    ensures fewer { length result.1.now < length rest.entry.now }
-    ensures manner { (result.0.manner ≡ input.entry.manner) × (result.0.checkpoints ≡ input.entry.checkpoints) }
-{
-    let (calls, rest) = rest.split_at(PART.min(rest.len()));
-    let part = RunInput {
-        first: &[],
-        calls,
-        place,
-        ..input
-    };
-    (part, rest)
-}
-
-// Begins the log anew behind the last call, where that is wanted.
-fn renew_last<F: Files<File = File>>(
+// Begins the log anew behind the calls so far, where its file has more bytes than this.
+fn renew_behind<F: Files<File = File>>(
     rt: &F,
     alloc: Global,
     path: &str,
@@ -266,6 +274,7 @@ fn renew_last<F: Files<File = File>>(
     ensures answers { IfOk result (λ o. (o.answers ≡ outcome.answers) × (o.lines ≡ outcome.lines)) }
     ensures unwanted { IfOk result (λ o. over ≡ None → o.renewal ≡ Unwanted) }
     ensures heeded { IfOk result (λ o. IsHeeded o.ground.journal over o.renewal) }
+    ensures same { IfOk result (λ o. is_some o.ground.journal ≡ is_some outcome.ground.journal) }
     ensures kept { KeepsLog outcome.ground.journal outcome.ground.state.events
         → IfOk result (λ o. KeepsLog o.ground.journal o.ground.state.events) }
     ensures fault { IfErr result (IsUnkept (is_some outcome.ground.journal)) }
@@ -283,7 +292,8 @@ fn renew_last<F: Files<File = File>>(
     }
 }
 
-/// Answers all calls, in parts between which the log begins anew where its file has grown, and once more behind the last.
+/// Answers all calls, in parts between which the log begins anew where its file has grown or a data component may have no
+/// room for the next call, and once more behind the last.
 pub fn answer_parts<R: Files<File = File> + Clock + Threads + Wait + Sync>(
     rt: &R,
     alloc: Global,
@@ -295,16 +305,21 @@ pub fn answer_parts<R: Files<File = File> + Clock + Threads + Wait + Sync>(
     ensures ended { IfOk result (HasEnded input.entry.manner.results ground.state ground.dcs.items
         input.entry.first.now input.entry.calls.now input.entry.checkpoints) }
     ensures kept { KeepsLog ground.journal ground.state.events → IfOk result (λ o. KeepsLog o.ground.journal o.ground.state.events) }
+    ensures same { IfOk result (λ o. is_some o.ground.journal ≡ is_some ground.journal) }
     ensures range { IfOk result (λ _. InRange input.entry.manner.workers input.entry.manner.tries) }
     ensures fault { IfErr result (Stops (is_some ground.journal) input.entry.manner.workers input.entry.manner.tries) }
 {
-    let (part, mut rest) = first_part(input);
+    let (part, mut rest) = next_part(&ground, Renewal::Unwanted, input);
     let mut outcome = answer_part(rt, alloc, RunOutcome::new(alloc, ground), part, waits)?;
-    'parts: while !rest.is_empty() {
-        let (part, behind) = next_part(input, rest, input.calls.len() - rest.len());
-        outcome = answer_next(rt, alloc, path, outcome, part, waits)?;
+    'parts: while !is_over(&rest) {
+        let over = over_before(&outcome.ground, rest.checkpoints.over, rest.first, rest.calls);
+        let renewed = renew_behind(rt, alloc, path, over, outcome)?;
+        let place = input.calls.len() - rest.calls.len();
+        let left = RunInput { place, ..rest };
+        let (part, behind) = next_part(&renewed.ground, renewed.renewal, left);
+        outcome = answer_part(rt, alloc, renewed, part, waits)?;
         rest = behind;
     }
     let over = input.checkpoints.over_at_end();
-    renew_last(rt, alloc, path, over, outcome)
+    renew_behind(rt, alloc, path, over, outcome)
 }

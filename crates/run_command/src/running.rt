@@ -219,8 +219,8 @@ pub fn run_from<R: Files<File = File> + Clock + Threads + Wait + Sync>(
     input: RunInput<script::Call>,
     listeners: Listeners,
 ) -> Result<RunReport, Stop>
-    ensures run { KeepsLog ground.journal ground.state.events → IfOk result (λ r. IsCallsRun (IsKeptSo r.journal input.entry.checkpoints)
-        input.entry.checkpoints ground.state ground.dcs.items input.entry.first.now input.entry.calls.now
+    ensures run { KeepsLog ground.journal ground.state.events → IfOk result (λ r. IsCallsRun
+        (IsKeptSo (is_some ground.journal) r.journal input.entry.checkpoints) input.entry.checkpoints ground.state ground.dcs.items input.entry.first.now input.entry.calls.now
         input.entry.manner.workers input.entry.manner.tries input.entry.manner.audit input.entry.manner.strict input.entry.manner.results
         r.report.status (string_bytes r.report.lines)) }
     ensures fault { IfErr result (IsUnkept (is_some ground.journal)) }

@@ -17,9 +17,10 @@ returns-in-Ok-answer_parts-clause-run g c = λ was.
     let o = c.in-Ok-answer_parts.outcome in
     let it = c.in-Ok-answer_parts.ensures in
     IfOk-weaker c.ended.result _ _ (λ r h.
-    ran_run (IsKeptSo r.journal input.checkpoints) input.checkpoints ground.state ground.dcs.items input.first.now input.calls.now m.workers m.tries
-    m.audit m.strict m.results r.report.status (string_bytes r.report.lines) o it.range it.ended h.1
-    (subst (λ j. IsKeptSo j input.checkpoints o.ground.state o.renewal) (sym h.0) (it.kept was, it.ended.heeded)))
+    ran_run (IsKeptSo (is_some ground.journal) r.journal input.checkpoints) input.checkpoints ground.state ground.dcs.items
+    input.first.now input.calls.now m.workers m.tries m.audit m.strict m.results r.report.status (string_bytes r.report.lines) o it.range it.ended h.1
+    (subst (λ j. IsKeptSo (is_some ground.journal) j input.checkpoints o.ground.state o.renewal) (sym h.0)
+    (it.same, it.kept was, it.ended.heeded)))
     c.ended.ensures.ok
 
 pub returns-in-Ok-answer_parts-clause-fault : goal.returns-in-Ok-answer_parts-clause-fault

@@ -18,7 +18,7 @@ returns-in-Ok g c =
     let ready : IsLoadingOf (beginning_of Run c.args.source) (Ready loaded) = rw c.in-Ready.is at c.in_ok-loaded.ensures in
     let m = c.args.manner in
     let r = c.in-Ok.field-0 in
-    let run = run_weaker (IsKeptSo r.journal never) (λ _ _. Unit {0}) (λ last renewal kept. tt) never loaded.state
+    let run = run_weaker (IsKeptSo false r.journal never) (λ _ _. Unit {0}) (λ last renewal kept. tt) never loaded.state
     loaded.dcs.items loaded.first.items loaded.calls.items m.workers m.tries m.audit m.strict m.results r.report.status
     (string_bytes r.report.lines)
     (rw (c.as_slice.ensures.value, c.as_slice-2.ensures.value) at (c.in-Ok.ensures.run tt)) in
