@@ -238,7 +238,13 @@ fn next_part<'a>(
     }
     if rest.first.is_empty() {
         let (calls, left) = split(ground, renewal, rest.calls);
-        return (RunInput { calls, ..rest }, RunInput { calls: left, ..rest });
+        return (
+            RunInput { calls, ..rest },
+            RunInput {
+                calls: left,
+                ..rest
+            },
+        );
     }
     let (first, left) = split(ground, renewal, rest.first);
     let part = RunInput {
@@ -246,7 +252,13 @@ fn next_part<'a>(
         calls: &[],
         ..rest
     };
-    (part, RunInput { first: left, ..rest })
+    (
+        part,
+        RunInput {
+            first: left,
+            ..rest
+        },
+    )
 }
 
 // Whether no call is left.
@@ -312,7 +324,12 @@ pub fn answer_parts<R: Files<File = File> + Clock + Threads + Wait + Sync>(
     let (part, mut rest) = next_part(&ground, Renewal::Unwanted, input);
     let mut outcome = answer_part(rt, alloc, RunOutcome::new(alloc, ground), part, waits)?;
     'parts: while !is_over(&rest) {
-        let over = over_before(&outcome.ground, rest.checkpoints.over, rest.first, rest.calls);
+        let over = over_before(
+            &outcome.ground,
+            rest.checkpoints.over,
+            rest.first,
+            rest.calls,
+        );
         let renewed = renew_behind(rt, alloc, path, over, outcome)?;
         let place = input.calls.len() - rest.calls.len();
         let left = RunInput { place, ..rest };

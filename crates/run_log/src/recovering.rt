@@ -20,8 +20,8 @@ ghost use Rattle.run_log.specs.Recovering.{is_in_doubt, overfull, IsLogFor, IsLo
 ghost use Rattle.run_log.specs.declared.recovering.Recovery.TheVariants.{Refused};
 
 pub use crate::log_lines::kind_refusal;
-use crate::upgrade::{Upgrade, upgrade_log};
 use crate::log_lines::{back_lines, back_refusal, open_refusal, other_refusal, overfull_refusal};
+use crate::upgrade::{Upgrade, upgrade_log};
 use base_records::{base_fault_line, begin as begin_with};
 use coming_back::{ComeBackFault, Resumed, come_back};
 use data_component::dc::Dc;
@@ -349,7 +349,9 @@ fn if_upgraded<F: Files<File = File>>(
 {
     match upgrade_log(rt, alloc, path, state, dcs)? {
         Upgrade::Done(opened) => Ok(Recovery::Ready(opened)),
-        Upgrade::Unfit(fault) => Ok(Recovery::Refused(Output::refusal(base_fault_line(alloc, fault)?))),
+        Upgrade::Unfit(fault) => Ok(Recovery::Refused(Output::refusal(base_fault_line(
+            alloc, fault,
+        )?))),
         Upgrade::Bound => Ok(Recovery::Refused(report)),
     }
 }

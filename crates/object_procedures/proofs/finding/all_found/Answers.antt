@@ -10,8 +10,10 @@ procedures-preserved c =
     let s = c.in-Some.ensures.steps in
     let count = ap length s.0 in (
       omega (arith, l.invariant.0, s.1, count),
-      (kept_more found_of (map declared_of l.procedure-iterator.rest.items) (map declared_of c.next.new.self.rest.items) (declared_of c.in-Some.procedure)
-          l.found.items c.keep.new.all.items _ _ (ap (map declared_of) s.0) c.in_ok-one.ensures c.in_ok-keep.ensures.all l.invariant.1.0,
-      refusals_more found_of (map declared_of l.procedure-iterator.rest.items) (map declared_of c.next.new.self.rest.items) (declared_of c.in-Some.procedure)
-          l.refusals.items c.keep.new.refusals.items _ _ (ap (map declared_of) s.0) c.in_ok-one.ensures c.in_ok-keep.ensures.refusals l.invariant.1.1),
+      (
+        kept_more found_of (map declared_of l.procedure-iterator.rest.items) (map declared_of c.next.new.self.rest.items) (declared_of c.in-Some.procedure)
+            l.found.items c.keep.new.all.items _ _ (ap (map declared_of) s.0) c.in_ok-one.ensures c.in_ok-keep.ensures.all l.invariant.1.0,
+        refusals_more found_of (map declared_of l.procedure-iterator.rest.items) (map declared_of c.next.new.self.rest.items) (declared_of c.in-Some.procedure)
+            l.refusals.items c.keep.new.refusals.items _ _ (ap (map declared_of) s.0) c.in_ok-one.ensures c.in_ok-keep.ensures.refusals l.invariant.1.1,
+      ),
     )
