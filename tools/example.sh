@@ -1,6 +1,6 @@
 #!/bin/sh
 # example.sh FOLDER: runs procd, as it is built, with the words in the file `words` of the example's
-# folder, a word a line, in a copy of it, and compares what it prints with the file `printed`, its status with `status`, and
+# folder, a word a line, in a copy of it, on the file `given` if there is one, and compares what it prints with the file `printed`, its status with `status`, and
 # the files that it writes with those of `written`, where there are such.
 # An object file NAME.o is what clang 14 makes of NAME.c with -target bpf -O2 -mcpu=v2 -c (tally: -mcpu=v3).
 procd=$("$(dirname "$0")/built.py" procd)
@@ -11,8 +11,10 @@ cp -r "$1/." "$copy"
 cd "$copy"
 set --
 while IFS= read -r word; do set -- "$@" "$word"; done < words
+given=/dev/null
+[ ! -e given ] || given=given
 status=0
-"$procd" "$@" > out < /dev/null || status=$?
+"$procd" "$@" > out < "$given" || status=$?
 differs=
 for file in written/*; do
     [ ! -e "$file" ] || cmp -s "$file" "${file#written/}" || differs="$differs $file"

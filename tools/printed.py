@@ -13,11 +13,11 @@ import sys
 
 from built import PROCD
 from dist import release
-from printed_rows import checkpoints, code, commands, logs, objects, partitioned, parts, restarts, runs, scripts, worlds
+from printed_rows import checkpoints, code, commands, logs, objects, partitioned, parts, restarts, runs, scripts, serving, worlds
 from trying import Program
 
 BUILT = [PROCD, PROCD.with_name("procd.by-rattle")]
-TABLES = [code, scripts, objects, worlds, restarts, runs, logs, checkpoints, partitioned, parts, commands]
+TABLES = [code, scripts, objects, worlds, restarts, runs, logs, checkpoints, partitioned, parts, serving, commands]
 
 
 def differs(ran, row):
@@ -33,7 +33,7 @@ def differs(ran, row):
 
 def help_is_there(program):
     """Whether the program and each command say how they are used."""
-    asked = [program.run([*words, "--help"]) for words in ([], ["exec"], ["asm"], ["dis"], ["verify"], ["world"], ["run"], ["log"])]
+    asked = [program.run([*words, "--help"]) for words in ([], ["exec"], ["asm"], ["dis"], ["verify"], ["world"], ["run"], ["serve"], ["log"])]
     return all(ran.status == 0 and ran.out and not ran.err for ran in asked)
 
 

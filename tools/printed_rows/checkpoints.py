@@ -46,6 +46,6 @@ def rows(_program):
     answers = "".join(f"call {place} committed\nresult {place} 0 7\n" for place in range(MANY))
     told = f"no checkpoint G1 Nothing\nfirst 0 committed\n{answers}checkpoint {MANY + 1} {MANY + 1}\nrow 0/0/5 7\n"
     yield run("ten", told, "--checkpoint-over", "1", "--results", "--workers", "64", text=many)
-    yield Row(["run", "--checkpoint", str(script)], b"", b"", 2, b"error: run takes --checkpoint and --checkpoint-over with --log alone")
-    yield Row(["run", "--checkpoint-over", "9", str(script)], b"", b"", 2, b"error: run takes --checkpoint and --checkpoint-over with --log alone")
+    yield Row(["run", "--checkpoint", str(script)], b"", b"", 2, b"error: --checkpoint and --checkpoint-over go with --log alone")
+    yield Row(["run", "--checkpoint-over", "9", str(script)], b"", b"", 2, b"error: --checkpoint and --checkpoint-over go with --log alone")
     yield Row(["run", "--log", str(place / "nine"), "--checkpoint-over", "x", str(script)], b"", b"", 2, no_number("--checkpoint-over <BYTES>", "x"))

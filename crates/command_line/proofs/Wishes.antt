@@ -22,6 +22,10 @@ use Rattle.command_line.specs.Said.{
   Bytes,
   Logless,
   Beside,
+  ServeWorkers,
+  ServeTries,
+  ServeBytes,
+  ServeLogless,
   Alone,
   Both,
   Drawn,
@@ -37,13 +41,13 @@ use Rattle.command_line.specs.Said.{
 }
 use Rattle.command_line.specs.Numbers.{SaysDigits, digits_of}
 use Rattle.command_line.specs.Said.{IsFlag, SaysCount, SaysLog, SaysNumber, SaysNumberIf, SaysNumbers, SaysPart}
-use Rattle.command_line.specs.Said.{SaysPartOf, SaysRun, SaysPartitioned, SaysMore, SaysNoMore, SaysWish, value_of}
+use Rattle.command_line.specs.Said.{SaysPartOf, SaysRun, SaysPartitioned, SaysServe, SaysMore, SaysNoMore, SaysWish, value_of}
 use Rattle.command_line.specs.Said.{Stats, Results, Tell, Metrics, Trace, Checkpoint, Over}
 use Rattle.command_line.specs.Task.{LogWish, Events, EventsAndRows, Follow, Audit, Picture}
 use Rattle.command_line.specs.Joining.LogWanted.{shown_wanted, audit_wanted}
 use Rattle.log_part.specs.declared.part.Part.{Part}
 use Rattle.log_part.specs.declared.part.Part.TheVariants.{Whole, From, Last}
-use Rattle.command_line.specs.Task.{Wish, Exec, Asm, Dis, Verify, World, Run, Partitioned, Log, command_name}
+use Rattle.command_line.specs.Task.{Wish, Exec, Asm, Dis, Verify, World, Run, Partitioned, Serve, Log, command_name}
 use Rattle.command_line.specs.Wanted.{IsTaskOrNoMemory, IsNoArgument, IsFaultOfArguments, IsFaultOf, IsRightly}
 use Rattle.command_line.specs.declared.words.WordFault.TheVariants as fault
 use Rattle.command_line.specs.declared.numbers.NoNumber.TheVariants as no_number
@@ -110,6 +114,27 @@ world_not_log e = cc
 log_not_run : codes "log" ≡ codes "run" → ⊥
 log_not_run e = apart_first (codes "log") (codes "run") 108 114 (omega arith) refl refl e
 
+exec_not_serve : codes "exec" ≡ codes "serve" → ⊥
+exec_not_serve e = cc
+
+asm_not_serve : codes "asm" ≡ codes "serve" → ⊥
+asm_not_serve e = cc
+
+dis_not_serve : codes "dis" ≡ codes "serve" → ⊥
+dis_not_serve e = cc
+
+verify_not_serve : codes "verify" ≡ codes "serve" → ⊥
+verify_not_serve e = cc
+
+serve_not_world : codes "serve" ≡ codes "world" → ⊥
+serve_not_world e = apart_first (codes "serve") (codes "world") 115 119 (omega arith) refl refl e
+
+run_not_serve : codes "run" ≡ codes "serve" → ⊥
+run_not_serve e = cc
+
+log_not_serve : codes "log" ≡ codes "serve" → ⊥
+log_not_serve e = cc
+
 apart : (a d : ℕ) → a ≡ 97 → d ≡ 100 → a ≡ d → ⊥
 apart a d is_a is_d same = omega (arith, is_a, is_d, same)
 
@@ -128,6 +153,7 @@ wants_exec name rows raw numbers is flag all
     (Run workers tries stats audit strict results tell metrics trace log checkpoint over script) named says =
     absurd (exec_not_run (sym is ∙ named))
 wants_exec name rows raw numbers is flag all (Partitioned workers tries a b l s) named says = absurd (exec_not_run (sym is ∙ named))
+wants_exec name rows raw numbers is flag all (Serve workers tries results metrics log over script) named says = absurd (exec_not_serve (sym is ∙ named))
 wants_exec name rows raw numbers is flag all (Log script) named says = absurd (exec_not_log (sym is ∙ named))
 
 pub wants_dis : (name : List ℕ) (rows : List Row) (raw : Bool) → name ≡ codes "dis" → ((r : Bool) → IsFlag r (one_of (codes "raw") rows) → raw ≡ r)
@@ -141,6 +167,7 @@ wants_dis name rows raw is flag
     (Run workers tries stats audit strict results tell metrics trace log checkpoint over script) named says =
     absurd (dis_not_run (sym is ∙ named))
 wants_dis name rows raw is flag (Partitioned workers tries a b l s) named says = absurd (dis_not_run (sym is ∙ named))
+wants_dis name rows raw is flag (Serve workers tries results metrics log over script) named says = absurd (dis_not_serve (sym is ∙ named))
 wants_dis name rows raw is flag (Log script) named says = absurd (dis_not_log (sym is ∙ named))
 
 pub wants_world : (name : List ℕ) (rows : List Row) (log audit : Bool) (script : Option (List ℕ)) → name ≡ codes "world"
@@ -158,6 +185,8 @@ wants_world name rows log audit script is flag other path
     (Run workers tries stats a b results tell metrics trace kept checkpoint over beside) named says =
     absurd (world_not_run (sym is ∙ named))
 wants_world name rows log audit script is flag other path (Partitioned workers tries a b l s) named says = absurd (world_not_run (sym is ∙ named))
+wants_world name rows log audit script is flag other path (Serve workers tries results metrics kept over beside) named says =
+    absurd (serve_not_world (sym named ∙ is))
 wants_world name rows log audit script is flag other path (Log beside) named says = absurd (world_not_log (sym is ∙ named))
 
 pub wants_run : (name : List ℕ) (rows : List Row) (result : Result Task WordFault) → name ≡ codes "run"
@@ -176,6 +205,7 @@ wants_run name rows result is all divides (World log audit script) named says = 
 wants_run name rows result is all divides (Run workers tries stats audit strict results tell metrics trace log checkpoint over script) named says =
     all workers tries stats audit strict results tell metrics trace log checkpoint over script says
 wants_run name rows result is all divides (Partitioned workers tries audit strict log script) named says = divides workers tries audit strict log script says
+wants_run name rows result is all divides (Serve workers tries results metrics log over script) named says = absurd (run_not_serve (sym is ∙ named))
 wants_run name rows result is all divides (Log script) named says = absurd (log_not_run (sym named ∙ is))
 
 pub wants_log : (name : List ℕ) (rows : List Row) (result : Result Task WordFault) → name ≡ codes "log"
@@ -190,7 +220,26 @@ wants_log name rows result is all
     (Run workers tries stats audit strict results tell metrics trace log checkpoint over script) named says =
     absurd (log_not_run (sym is ∙ named))
 wants_log name rows result is all (Partitioned workers tries a b l s) named says = absurd (log_not_run (sym is ∙ named))
+wants_log name rows result is all (Serve workers tries results metrics log over script) named says = absurd (log_not_serve (sym is ∙ named))
 wants_log name rows result is all (Log wanted) named says = all wanted says
+
+pub wants_serve : (name : List ℕ) (rows : List Row) (result : Result Task WordFault) → name ≡ codes "serve"
+    → ((workers tries : ℕ) (results : Bool) (metrics log : Option (List ℕ)) (over : Option ℕ) (script : Option (List ℕ))
+    → SaysServe rows workers tries results metrics log over script
+    → IsTaskOrNoMemory (Serve workers tries results metrics log over script) result)
+    → (wish : Wish) → name ≡ command_name wish → SaysWish rows wish → IsTaskOrNoMemory wish result
+wants_serve name rows result is all (Exec r ns) named says = absurd (exec_not_serve (sym named ∙ is))
+wants_serve name rows result is all Asm named says = absurd (asm_not_serve (sym named ∙ is))
+wants_serve name rows result is all (Dis r) named says = absurd (dis_not_serve (sym named ∙ is))
+wants_serve name rows result is all Verify named says = absurd (verify_not_serve (sym named ∙ is))
+wants_serve name rows result is all (World log audit script) named says = absurd (serve_not_world (sym is ∙ named))
+wants_serve name rows result is all
+    (Run workers tries stats audit strict results tell metrics trace log checkpoint over script) named says =
+    absurd (run_not_serve (sym named ∙ is))
+wants_serve name rows result is all (Partitioned workers tries a b l s) named says = absurd (run_not_serve (sym named ∙ is))
+wants_serve name rows result is all (Serve workers tries results metrics log over script) named says =
+    all workers tries results metrics log over script says
+wants_serve name rows result is all (Log wanted) named says = absurd (log_not_serve (sym named ∙ is))
 
 -- ---- a log's file
 
@@ -300,6 +349,10 @@ module _ (rows : List Row) (base audit follow : Bool) (source picture : Option T
   log_fits same one alone undrawn (Bytes run none) = log_not_run run
   log_fits same one alone undrawn (Logless run none wanted) = log_not_run run
   log_fits same one alone undrawn (Beside run flag more) = log_not_run run
+  log_fits same one alone undrawn (ServeWorkers serve none) = log_not_serve serve
+  log_fits same one alone undrawn (ServeTries serve none) = log_not_serve serve
+  log_fits same one alone undrawn (ServeBytes serve none) = log_not_serve serve
+  log_fits same one alone undrawn (ServeLogless serve none some) = log_not_serve serve
   log_fits same one alone undrawn (Alone log a flag unequal) = unequal (ap is_some (sym is) ∙ (same ∙ audits a flag))
   log_fits same one alone undrawn (Both log asked audited) = true_false (sym (asks true asked) ∙ one (audits true audited))
   log_fits same one alone undrawn (Drawn log some whole) =
@@ -407,6 +460,16 @@ logged_so f rows log checkpoint over log_is flag says not none wanted =
           true_false (sym yes ∙ not)
     ]
 
+-- the same where only the file's size is asked for
+pub served_so : {X : Type 0} (f : X → Text) (rows : List Row) (log : Option X) (over : Option ℕ)
+    → option_map f log ≡ first_of (codes "log") rows → SaysNumberIf (first_of (codes "checkpoint-over") rows) over
+    → (is_none log && (false || is_some over)) ≡ false
+    → first_of (codes "log") rows ≡ None → is_some (first_of (codes "checkpoint-over") rows) ≡ true → ⊥
+served_so f rows log over log_is says not none there =
+    let no_log = nothing_there f log (log_is ∙ none) in
+    let yes = both_true (is_none log) false (is_some over) no_log (number_some (first_of (codes "checkpoint-over") rows) over says ∙ there) in
+    true_false (sym yes ∙ not)
+
 -- whether something is asked for that is of all calls, or of the one log of all
 module _ (rows : List Row) (stats results tell checkpoint : Bool) (metrics trace over : Option Text) (set there : Bool)
     (stats_is : (b : Bool) → IsFlag b (one_of (codes "stats") rows) → stats ≡ b)
@@ -449,21 +512,25 @@ module _ (rows : List Row) (stats results tell checkpoint : Bool) (metrics trace
         | Over some ↦ true_false (sym some ∙ (ap is_some (sym over_is) ∙ fifth.1))
       ]
 
--- only these three commands have more to say than a file and flags
-pub lacks_nothing : (name : Text) (rows : List Row) → (name ≡ codes "exec" → ⊥) → (name ≡ codes "run" → ⊥) → (name ≡ codes "log" → ⊥)
-    → ¬ IsUnfit name rows
-lacks_nothing name rows not_exec not_run not_log (Argument exec none) = not_exec exec
-lacks_nothing name rows not_exec not_run not_log (Workers run none) = not_run run
-lacks_nothing name rows not_exec not_run not_log (Tries run none) = not_run run
-lacks_nothing name rows not_exec not_run not_log (Bytes run none) = not_run run
-lacks_nothing name rows not_exec not_run not_log (Logless run none wanted) = not_run run
-lacks_nothing name rows not_exec not_run not_log (Beside run flag more) = not_run run
-lacks_nothing name rows not_exec not_run not_log (Alone log audit flag unequal) = not_log log
-lacks_nothing name rows not_exec not_run not_log (Both log asked audit) = not_log log
-lacks_nothing name rows not_exec not_run not_log (Drawn log some whole) = not_log log
-lacks_nothing name rows not_exec not_run not_log (Followed log followed beside) = not_log log
-lacks_nothing name rows not_exec not_run not_log (NoPart log none) = not_log log
-lacks_nothing name rows not_exec not_run not_log (Parted log some whole) = not_log log
+-- only these four commands have more to say than a file and flags
+pub lacks_nothing : (name : Text) (rows : List Row) → (name ≡ codes "exec" → ⊥) → (name ≡ codes "run" → ⊥) → (name ≡ codes "serve" → ⊥)
+    → (name ≡ codes "log" → ⊥) → ¬ IsUnfit name rows
+lacks_nothing name rows not_exec not_run not_serve not_log (Argument exec none) = not_exec exec
+lacks_nothing name rows not_exec not_run not_serve not_log (Workers run none) = not_run run
+lacks_nothing name rows not_exec not_run not_serve not_log (Tries run none) = not_run run
+lacks_nothing name rows not_exec not_run not_serve not_log (Bytes run none) = not_run run
+lacks_nothing name rows not_exec not_run not_serve not_log (Logless run none wanted) = not_run run
+lacks_nothing name rows not_exec not_run not_serve not_log (Beside run flag more) = not_run run
+lacks_nothing name rows not_exec not_run not_serve not_log (ServeWorkers serve none) = not_serve serve
+lacks_nothing name rows not_exec not_run not_serve not_log (ServeTries serve none) = not_serve serve
+lacks_nothing name rows not_exec not_run not_serve not_log (ServeBytes serve none) = not_serve serve
+lacks_nothing name rows not_exec not_run not_serve not_log (ServeLogless serve none some) = not_serve serve
+lacks_nothing name rows not_exec not_run not_serve not_log (Alone log audit flag unequal) = not_log log
+lacks_nothing name rows not_exec not_run not_serve not_log (Both log asked audit) = not_log log
+lacks_nothing name rows not_exec not_run not_serve not_log (Drawn log some whole) = not_log log
+lacks_nothing name rows not_exec not_run not_serve not_log (Followed log followed beside) = not_log log
+lacks_nothing name rows not_exec not_run not_serve not_log (NoPart log none) = not_log log
+lacks_nothing name rows not_exec not_run not_serve not_log (Parted log some whole) = not_log log
 
 pub lacks_no_argument : (name : Text) (rows : List Row) → name ≡ codes "exec" → AllNumbers (unwrap_or (all_of (codes "arg") rows) [])
     → ¬ IsUnfit name rows
@@ -473,6 +540,10 @@ lacks_no_argument name rows is all (Tries run none) = exec_not_run (sym is ∙ r
 lacks_no_argument name rows is all (Bytes run none) = exec_not_run (sym is ∙ run)
 lacks_no_argument name rows is all (Logless run none wanted) = exec_not_run (sym is ∙ run)
 lacks_no_argument name rows is all (Beside run flag more) = exec_not_run (sym is ∙ run)
+lacks_no_argument name rows is all (ServeWorkers serve none) = exec_not_serve (sym is ∙ serve)
+lacks_no_argument name rows is all (ServeTries serve none) = exec_not_serve (sym is ∙ serve)
+lacks_no_argument name rows is all (ServeBytes serve none) = exec_not_serve (sym is ∙ serve)
+lacks_no_argument name rows is all (ServeLogless serve none some) = exec_not_serve (sym is ∙ serve)
 lacks_no_argument name rows is all (Alone log audit flag unequal) = exec_not_log (sym is ∙ log)
 lacks_no_argument name rows is all (Both log asked audit) = exec_not_log (sym is ∙ log)
 lacks_no_argument name rows is all (Drawn log some whole) = exec_not_log (sym is ∙ log)
@@ -491,6 +562,10 @@ lacks_no_count rows workers tries bytes logged alone (Tries run none) = tries no
 lacks_no_count rows workers tries bytes logged alone (Bytes run none) = bytes none
 lacks_no_count rows workers tries bytes logged alone (Logless run none wanted) = logged none wanted
 lacks_no_count rows workers tries bytes logged alone (Beside run flag more) = alone flag more
+lacks_no_count rows workers tries bytes logged alone (ServeWorkers serve none) = run_not_serve serve
+lacks_no_count rows workers tries bytes logged alone (ServeTries serve none) = run_not_serve serve
+lacks_no_count rows workers tries bytes logged alone (ServeBytes serve none) = run_not_serve serve
+lacks_no_count rows workers tries bytes logged alone (ServeLogless serve none some) = run_not_serve serve
 lacks_no_count rows workers tries bytes logged alone (Alone log audit flag unequal) = log_not_run (sym log)
 lacks_no_count rows workers tries bytes logged alone (Both log asked audit) = log_not_run (sym log)
 lacks_no_count rows workers tries bytes logged alone (Drawn log some whole) = log_not_run (sym log)
@@ -498,19 +573,44 @@ lacks_no_count rows workers tries bytes logged alone (Followed log followed besi
 lacks_no_count rows workers tries bytes logged alone (NoPart log none) = log_not_run (sym log)
 lacks_no_count rows workers tries bytes logged alone (Parted log some whole) = log_not_run (sym log)
 
+-- the same of calls that are served
+pub served_fits : (rows : List Row) → ¬ IsNoCount (first_of (codes "workers") rows) → ¬ IsNoCount (first_of (codes "tries") rows)
+    → ¬ IsNoCount (first_of (codes "checkpoint-over") rows)
+    → (first_of (codes "log") rows ≡ None → is_some (first_of (codes "checkpoint-over") rows) ≡ true → ⊥) → ¬ IsUnfit (codes "serve") rows
+served_fits rows workers tries bytes logged (Argument exec none) = exec_not_serve (sym exec)
+served_fits rows workers tries bytes logged (Workers run none) = run_not_serve (sym run)
+served_fits rows workers tries bytes logged (Tries run none) = run_not_serve (sym run)
+served_fits rows workers tries bytes logged (Bytes run none) = run_not_serve (sym run)
+served_fits rows workers tries bytes logged (Logless run none wanted) = run_not_serve (sym run)
+served_fits rows workers tries bytes logged (Beside run flag more) = run_not_serve (sym run)
+served_fits rows workers tries bytes logged (ServeWorkers serve none) = workers none
+served_fits rows workers tries bytes logged (ServeTries serve none) = tries none
+served_fits rows workers tries bytes logged (ServeBytes serve none) = bytes none
+served_fits rows workers tries bytes logged (ServeLogless serve none some) = logged none some
+served_fits rows workers tries bytes logged (Alone log audit flag unequal) = log_not_serve (sym log)
+served_fits rows workers tries bytes logged (Both log asked audit) = log_not_serve (sym log)
+served_fits rows workers tries bytes logged (Drawn log some whole) = log_not_serve (sym log)
+served_fits rows workers tries bytes logged (Followed log followed beside) = log_not_serve (sym log)
+served_fits rows workers tries bytes logged (NoPart log none) = log_not_serve (sym log)
+served_fits rows workers tries bytes logged (Parted log some whole) = log_not_serve (sym log)
+
 pub asm_lacks_nothing : (name : Text) (rows : List Row) → name ≡ codes "asm" → ¬ IsUnfit name rows
-asm_lacks_nothing name rows is = lacks_nothing name rows (λ e. exec_not_asm (sym e ∙ is)) (λ e. asm_not_run (sym is ∙ e)) (λ e. asm_not_log (sym is ∙ e))
+asm_lacks_nothing name rows is = lacks_nothing name rows (λ e. exec_not_asm (sym e ∙ is)) (λ e. asm_not_run (sym is ∙ e)) (λ e. asm_not_serve (sym is ∙ e))
+    (λ e. asm_not_log (sym is ∙ e))
 
 pub dis_lacks_nothing : (name : Text) (rows : List Row) → name ≡ codes "dis" → ¬ IsUnfit name rows
-dis_lacks_nothing name rows is = lacks_nothing name rows (λ e. exec_not_dis (sym e ∙ is)) (λ e. dis_not_run (sym is ∙ e)) (λ e. dis_not_log (sym is ∙ e))
+dis_lacks_nothing name rows is = lacks_nothing name rows (λ e. exec_not_dis (sym e ∙ is)) (λ e. dis_not_run (sym is ∙ e)) (λ e. dis_not_serve (sym is ∙ e))
+    (λ e. dis_not_log (sym is ∙ e))
 
 pub verify_lacks_nothing : (name : Text) (rows : List Row) → name ≡ codes "verify" → ¬ IsUnfit name rows
 verify_lacks_nothing name rows is =
-    lacks_nothing name rows (λ e. exec_not_verify (sym e ∙ is)) (λ e. verify_not_run (sym is ∙ e)) (λ e. verify_not_log (sym is ∙ e))
+    lacks_nothing name rows (λ e. exec_not_verify (sym e ∙ is)) (λ e. verify_not_run (sym is ∙ e)) (λ e. verify_not_serve (sym is ∙ e))
+    (λ e. verify_not_log (sym is ∙ e))
 
 pub world_lacks_nothing : (name : Text) (rows : List Row) → name ≡ codes "world" → ¬ IsUnfit name rows
 world_lacks_nothing name rows is =
-    lacks_nothing name rows (λ e. exec_not_world (sym e ∙ is)) (λ e. world_not_run (sym is ∙ e)) (λ e. world_not_log (sym is ∙ e))
+    lacks_nothing name rows (λ e. exec_not_world (sym e ∙ is)) (λ e. world_not_run (sym is ∙ e)) (λ e. serve_not_world (sym e ∙ is))
+    (λ e. world_not_log (sym is ∙ e))
 
 pub more_numbers : (texts : List Text) (i : ℕ) (said : Text) → slice_get texts i ≡ Some said → SaysNumber said
     → ((k : ℕ) (t : Text) → k < i → slice_get texts k ≡ Some t → SaysNumber t)

@@ -9,7 +9,7 @@ use Rattle.clap.specs.declared.error.kind.ErrorKind.TheVariants as kind
 use Rattle.clap.specs.declared.builder.ArgAction.TheVariants.{Set, SetTrue, Append}
 use Rattle.std.specs.Str.Parse.{IsNumeral, digits_value, without_leading_plus}
 use Rattle.command_line.specs.Numbers.{SaysDigits, digits_of}
-use Rattle.command_line.specs.Task.{Wish, Exec, Asm, Dis, Verify, World, Run, Partitioned, Log, command_name}
+use Rattle.command_line.specs.Task.{Wish, Exec, Asm, Dis, Verify, World, Run, Partitioned, Serve, Log, command_name}
 use Rattle.command_line.specs.Task.{LogWish, Events, EventsAndRows, Follow, Audit, Picture}
 use Rattle.log_part.specs.declared.part.Part.{Part}
 use Rattle.log_part.specs.declared.part.Part.TheVariants.{Whole, From, Last}
@@ -103,6 +103,16 @@ kept_app = with_rule logged_app partitions_rule
 abbrev pub run_app : App
 run_app = with_rule (with_rule (with_rule (with_rule kept_app checkpoint_rule) (option_rule (codes "checkpoint-over"))) file_rule) script_rule
 
+-- serve [--workers N] [--tries N] [--results] [--metrics PROM] [--log LOG]
+abbrev pub served_app : App
+served_app =
+    with_rule (with_rule (with_rule (with_rule (with_rule (new_app (codes "serve")) (option_rule (codes "workers"))) (option_rule (codes "tries")))
+    results_rule) (option_rule (codes "metrics"))) (option_rule (codes "log"))
+
+-- and behind it [--checkpoint-over BYTES] FILE [SCRIPT]
+abbrev pub serve_app : App
+serve_app = with_rule (with_rule (with_rule served_app (option_rule (codes "checkpoint-over"))) file_rule) script_rule
+
 -- log [--rows] [--audit] [--follow] [--picture SVG]
 abbrev pub drawn_app : App
 drawn_app = with_rule (with_rule (with_rule (with_rule (new_app (codes "log")) rows_rule) audit_rule) follow_rule) (option_rule (codes "picture"))
@@ -121,7 +131,9 @@ code_app = with_subcommand (with_subcommand (with_subcommand (new_app (codes "pr
 
 -- all commands
 abbrev pub commands_app : App
-commands_app = with_subcommand (with_subcommand (with_subcommand (with_subcommand code_app verify_app.top) world_app.top) run_app.top) log_app.top
+commands_app =
+    with_subcommand (with_subcommand (with_subcommand (with_subcommand (with_subcommand code_app verify_app.top) world_app.top) run_app.top)
+    serve_app.top) log_app.top
 
 -- a command line that takes --version
 abbrev pub with_version : App → App
@@ -202,6 +214,14 @@ SaysPartitioned rows workers tries audit strict log script =
     × IsFlag audit (one_of (codes "audit") rows) × (first_of (codes "log") rows ≡ log) × (first_of (codes "script") rows ≡ script)
     × IsFlag true (one_of (codes "partitions") rows) × SaysNoMore rows × IsFlag strict (one_of (codes "strict") rows)
 
+-- the same of calls that are served; a checkpoint is that of a log
+abbrev pub SaysServe : List Row → (workers tries : ℕ) → (results : Bool) → (metrics log : Option Text) → Option ℕ → Option Text → Type 0
+SaysServe rows workers tries results metrics log over script =
+    SaysCount (first_of (codes "workers") rows) 4 workers × SaysCount (first_of (codes "tries") rows) 3 tries
+    × IsFlag results (one_of (codes "results") rows) × (first_of (codes "metrics") rows ≡ metrics) × (first_of (codes "log") rows ≡ log)
+    × SaysNumberIf (first_of (codes "checkpoint-over") rows) over × (first_of (codes "script") rows ≡ script)
+    × (log ≡ None → over ≡ None)
+
 -- from which place on, or how many at the end: one of both at most, and the whole log where neither is said
 abbrev pub SaysPart : (from tail : Option Text) → Part → Type 0
 SaysPart None None part = part ≡ Whole
@@ -239,6 +259,7 @@ SaysWish rows (World log audit script) =
 SaysWish rows (Run workers tries stats audit strict results tell metrics trace log checkpoint over script) =
     SaysRun rows workers tries stats audit strict results tell metrics trace log checkpoint over script
 SaysWish rows (Partitioned workers tries audit strict log script) = SaysPartitioned rows workers tries audit strict log script
+SaysWish rows (Serve workers tries results metrics log over script) = SaysServe rows workers tries results metrics log over script
 SaysWish rows (Log wanted) = SaysLog rows wanted
 
 -- the words are a command line of the program, and say this command with this file
@@ -285,6 +306,11 @@ pub data IsUnfit (name : Text) (rows : List Row) : Type 0 where
   Logless : name ≡ codes "run" → first_of (codes "log") rows ≡ None
       → IsFlag true (one_of (codes "checkpoint") rows) ⊎ (is_some (first_of (codes "checkpoint-over") rows) ≡ true) → IsUnfit name rows
   Beside : name ≡ codes "run" → IsFlag true (one_of (codes "partitions") rows) → SaysMore rows → IsUnfit name rows
+  ServeWorkers : name ≡ codes "serve" → IsNoCount (first_of (codes "workers") rows) → IsUnfit name rows
+  ServeTries : name ≡ codes "serve" → IsNoCount (first_of (codes "tries") rows) → IsUnfit name rows
+  ServeBytes : name ≡ codes "serve" → IsNoCount (first_of (codes "checkpoint-over") rows) → IsUnfit name rows
+  ServeLogless : name ≡ codes "serve" → first_of (codes "log") rows ≡ None → is_some (first_of (codes "checkpoint-over") rows) ≡ true
+      → IsUnfit name rows
   Alone : name ≡ codes "log" → (audit : Bool) → IsFlag audit (one_of (codes "audit") rows)
       → is_some (first_of (codes "source") rows) ≢ audit → IsUnfit name rows
   Both : name ≡ codes "log" → IsFlag true (one_of (codes "rows") rows) → IsFlag true (one_of (codes "audit") rows) → IsUnfit name rows

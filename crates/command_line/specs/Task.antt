@@ -25,6 +25,7 @@ pub data Wish : Type 0 where
   World : (log audit : Bool) (script : Option (List ℕ)) → Wish
   Run : (workers tries : ℕ) (stats audit strict results tell : Bool) (metrics trace log : Option (List ℕ)) (checkpoint : Bool) (over : Option ℕ) (script : Option (List ℕ)) → Wish
   Partitioned : (workers tries : ℕ) (audit strict : Bool) (log script : Option (List ℕ)) → Wish
+  Serve : (workers tries : ℕ) (results : Bool) (metrics log : Option (List ℕ)) (over : Option ℕ) (script : Option (List ℕ)) → Wish
   Log : (wanted : LogWish) → Wish
 
 abbrev pub command_name : Wish → List ℕ
@@ -35,6 +36,7 @@ command_name Verify = codes "verify"
 command_name (World log audit script) = codes "world"
 command_name (Run workers tries stats audit strict results tell metrics trace log checkpoint over script) = codes "run"
 command_name (Partitioned workers tries audit strict log script) = codes "run"
+command_name (Serve workers tries results metrics log over script) = codes "serve"
 command_name (Log wanted) = codes "log"
 
 abbrev pub log_wish : LogTask → LogWish
@@ -55,6 +57,9 @@ wish_of (task.Run r) =
     (option_map (λ path. path.now) r.log) r.checkpoint r.over (option_map (λ path. path.now) r.script)
 wish_of (task.Partitioned r) =
     Partitioned r.workers r.tries r.audit r.strict (option_map (λ path. path.now) r.log) (option_map (λ path. path.now) r.script)
+wish_of (task.Serve r) =
+    Serve r.workers r.tries r.results (option_map (λ path. path.now) r.metrics) (option_map (λ path. path.now) r.log) r.over
+    (option_map (λ path. path.now) r.script)
 wish_of (task.Log wanted) = Log (log_wish wanted)
 
 -- whether what FILE has is to be UTF-8: an object file isn't, beside which a script stands
@@ -66,10 +71,12 @@ reads_text Verify = true
 reads_text (World log audit script) = is_none script
 reads_text (Run workers tries stats audit strict results tell metrics trace log checkpoint over script) = is_none script
 reads_text (Partitioned workers tries audit strict log script) = is_none script
+reads_text (Serve workers tries results metrics log over script) = is_none script
 reads_text (Log wanted) = false
 
 -- whether there may be something to tell on standard error: a run's figures, or which data components are full
 abbrev pub may_tell : Wish → Bool
 may_tell (Run workers tries stats audit strict results tell metrics trace log checkpoint over script) = true
 may_tell (Partitioned workers tries audit strict log script) = true
+may_tell (Serve workers tries results metrics log over script) = true
 may_tell other = false

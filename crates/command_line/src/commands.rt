@@ -4,7 +4,7 @@ ghost use Rattle.std.specs.Prelude.{◌≡◌, true, false, IfOk};
 ghost use Rattle.clap.specs.Words.{App, Rule, app_of, with_subcommand, with_rule, rule_of};
 ghost use Rattle.clap.specs.declared.builder.command.Command.TheViews.{out-Command};
 ghost use Rattle.command_line.specs.Task.{Run};
-ghost use Rattle.command_line.specs.Said.{procd_app, exec_app, asm_app, dis_app, verify_app, world_app, told_app, kept_app, run_app, log_app};
+ghost use Rattle.command_line.specs.Said.{procd_app, exec_app, asm_app, dis_app, verify_app, world_app, told_app, kept_app, run_app, served_app, serve_app, log_app};
 ghost use Rattle.command_line.specs.Said.{file_rule, raw_rule, log_rule, audit_rule, rows_rule};
 ghost use Rattle.command_line.specs.Said.{follow_rule, source_rule, script_rule, option_rule, stats_rule};
 ghost use Rattle.command_line.specs.Said.{results_rule, tell_rule, checkpoint_rule, partitions_rule, strict_rule};
@@ -310,6 +310,58 @@ fn run_command<'a>(alloc: Global) -> Result<Command<'a>, AllocError>
     with_arg(with_file, script_arg(alloc, BESIDE_HELP))
 }
 
+// `serve [--workers N] [--tries N] [--results] [--metrics PROM] [--log LOG]`
+fn served_command<'a>(alloc: Global) -> Result<Command<'a>, AllocError>
+    ensures app { IfOk result (λ c. app_of c ≡ served_app) }
+    ensures local { IfOk result (λ c. (out-Command c).has_globals ≡ false) }
+{
+    let workers = option_arg(
+        alloc,
+        "workers",
+        "N",
+        "How many workers make calls at once: 1 to 64, or 4 where it isn't said",
+    );
+    let tries = option_arg(
+        alloc,
+        "tries",
+        "N",
+        "How often a request is sent at most: 1 to 1000, or 3 where it isn't said",
+    );
+    let metrics = option_arg(
+        alloc,
+        "metrics",
+        "PROM",
+        "A file for Prometheus, written anew each second while calls come: how many were answered how, and how long they took",
+    );
+    let log = option_arg(
+        alloc,
+        "log",
+        "LOG",
+        "A file that keeps the log: what it has is gone on from, and each answer waits for it",
+    );
+    let with_workers = with_arg(Ok(Command::new(alloc, "serve")), workers);
+    let with_tries = with_arg(with_workers, tries);
+    let with_results = with_arg(with_tries, results_arg(alloc));
+    let with_metrics = with_arg(with_results, metrics);
+    with_arg(with_metrics, log)
+}
+
+// The same with `[--checkpoint-over BYTES] FILE [SCRIPT]` behind it.
+fn serve_command<'a>(alloc: Global) -> Result<Command<'a>, AllocError>
+    ensures app { IfOk result (λ c. app_of c ≡ serve_app) }
+    ensures local { IfOk result (λ c. (out-Command c).has_globals ≡ false) }
+{
+    let over = option_arg(
+        alloc,
+        "checkpoint-over",
+        "BYTES",
+        "Write LOG anew where it has more bytes than this, before the first call and after calls: the rows, and the log from there on",
+    );
+    let with_over = with_arg(served_command(alloc), over);
+    let with_file = with_arg(with_over, file_arg(alloc, SCRIPT_HELP));
+    with_arg(with_file, script_arg(alloc, BESIDE_HELP))
+}
+
 // --rows
 fn rows_arg<'a>(alloc: Global) -> Arg<'a>
     ensures rule { rule_of result ≡ rows_rule }
@@ -415,6 +467,9 @@ const WORLD: &str =
 const RUN: &str =
     "Run the calls of a script by workers: prints what each was answered, as `call I committed`, and then the rows";
 
+const SERVE: &str =
+    "Serve calls of a script's procedures that come on standard input, as `call NAME ARG..`: prints each one's answer once it is kept, as `5 committed`";
+
 const LOG: &str =
     "Print the events of a log's file, one a line, as `7 end 3 committed`; or draw them, or audit it beside a script";
 
@@ -432,7 +487,8 @@ pub(crate) fn procd_command<'a>(alloc: Global) -> Result<Command<'a>, AllocError
     let with_verify = with_command(with_dis, verify_command(alloc), VERIFY);
     let with_world = with_command(with_verify, world_command(alloc), WORLD);
     let with_run = with_command(with_world, run_command(alloc), RUN);
-    let with_log = with_command(with_run, log_command(alloc), LOG)?;
+    let with_serve = with_command(with_run, serve_command(alloc), SERVE);
+    let with_log = with_command(with_serve, log_command(alloc), LOG)?;
     Ok(
         with_log
             .about("A transaction component that runs verified BPF procedures")

@@ -7,10 +7,10 @@ ghost use Rattle.clap.specs.Words.{subcommand_rows_of, takes, rows_of, found_of,
 ghost use Rattle.command_line.specs.Wanted.{WantsOrNoMemory, IsTaskOrNoMemory, IsNumbersOrNoMemory, IsWrongOrNoMemory};
 ghost use Rattle.command_line.specs.Wanted.{IsFaultOf, IsFaultOfArguments, IsRightly};
 ghost use Rattle.command_line.specs.Numbers.{id_of};
-ghost use Rattle.command_line.specs.Task.{Wish, LogWish, Run, Partitioned, Log, command_name, log_wish};
+ghost use Rattle.command_line.specs.Task.{Wish, LogWish, Run, Partitioned, Serve, Log, command_name, log_wish};
 ghost use Rattle.command_line.specs.Joining.LogWanted.{shown_wanted, audit_wanted};
 ghost use Rattle.command_line.specs.Said.{procd_app};
-ghost use Rattle.command_line.specs.Said.{Says, SaysWish, SaysRun, SaysPartitioned, SaysMore};
+ghost use Rattle.command_line.specs.Said.{Says, SaysWish, SaysRun, SaysPartitioned, SaysServe, SaysMore};
 ghost use Rattle.command_line.specs.Said.{SaysNoMore, SaysLog, SaysPart, SaysCount, SaysNumberIf};
 ghost use Rattle.command_line.specs.Said.{SaysNumbers, AllNumbers, IsFlag, value_of, wants_checkpoint};
 ghost use Rattle.command_line.specs.Said.{IsWrong, IsNoCount, IsNoPart, IsUnfit};
@@ -50,6 +50,8 @@ pub enum Task<'a> {
     Run(RunTask<'a>),
     /// Run the calls of a script, those of each partition of its data components apart.
     Partitioned(PartitionedTask<'a>),
+    /// Serve calls of a script's procedures as they come.
+    Serve(ServeTask<'a>),
     /// Read a log's file.
     Log(LogTask<'a>),
 }
@@ -97,6 +99,19 @@ pub struct PartitionedTask<'a> {
     pub script: Option<&'a str>,
 }
 
+/// How calls are to be served. What isn't said here is as of `RunTask`.
+#[derive(Clone, Copy)]
+pub struct ServeTask<'a> {
+    pub workers: u64,
+    pub tries: u64,
+    pub results: bool,
+    /// The path of the file that tells of the calls, while they come and after the last.
+    pub metrics: Option<&'a str>,
+    pub log: Option<&'a str>,
+    pub over: Option<u64>,
+    pub script: Option<&'a str>,
+}
+
 /// What is wanted of a log's file.
 #[derive(Clone, Copy)]
 pub enum LogTask<'a> {
@@ -124,7 +139,7 @@ impl Task<'_> {
     pub fn may_tell(&self) -> bool
         ensures { result ≡ may_tell (wish_of self.now) }
     {
-        matches!(self, Task::Run(_) | Task::Partitioned(_))
+        matches!(self, Task::Run(_) | Task::Partitioned(_) | Task::Serve(_))
     }
 }
 
@@ -157,7 +172,7 @@ pub enum WordFault<'a> {
     TwoParts,
     /// `log` with `--from` or `--tail`, and with `--rows` or `--audit`.
     PartUnwanted,
-    /// `run --checkpoint` or `--checkpoint-over` without `--log`.
+    /// `run` or `serve` with `--checkpoint` or `--checkpoint-over`, but without `--log`.
     CheckpointAlone,
     /// `run --partitions` beside what is of all calls, or of the one log of all.
     PartitionsBeside,
@@ -359,6 +374,32 @@ fn run_task<'a>(matches: &ArgMatches<'a>) -> Result<Task<'a>, WordFault<'a>>
     }))
 }
 
+// How calls are to be served.
+fn serve_task<'a>(matches: &ArgMatches<'a>) -> Result<Task<'a>, WordFault<'a>>
+    ensures task { (workers tries : ℕ) (results : Bool) (metrics log : Option (List ℕ)) (over : Option ℕ) (script : Option (List ℕ))
+        → SaysServe (rows_of (found_of matches.now)) workers tries results metrics log over script
+        → IsTaskOrNoMemory (Serve workers tries results metrics log over script) result }
+    ensures wrong { IfOk result (λ task. ¬ IsUnfit (codes "serve") (rows_of (found_of matches.now))) }
+    ensures err { IfErr result (IsFaultOf (rows_of (found_of matches.now))) }
+{
+    let workers = number_or(matches, NumberOption::Workers, WORKERS)?;
+    let tries = number_or(matches, NumberOption::Tries, TRIES)?;
+    let over = number_of(matches, NumberOption::Bytes)?;
+    let log = text_of(matches, "log");
+    if is_logless(log, false, over) {
+        return Err(WordFault::CheckpointAlone);
+    }
+    Ok(Task::Serve(ServeTask {
+        workers,
+        tries,
+        results: flag_of(matches, "results"),
+        metrics: text_of(matches, "metrics"),
+        log,
+        over,
+        script: text_of(matches, "script"),
+    }))
+}
+
 // Which of a log's events are wanted.
 fn part_of<'a>(matches: &ArgMatches<'a>) -> Result<Part, WordFault<'a>>
     ensures ok { IfOk result (SaysPart (first_of (codes "from") (rows_of (found_of matches.now)))
@@ -473,6 +514,7 @@ fn task_of<'a>(
             script: text_of(matches, "script"),
         }),
         "run" => run_task(matches),
+        "serve" => serve_task(matches),
         "log" => log_task(matches),
         _ => Err(WordFault::NoCommand),
     }

@@ -1,16 +1,19 @@
 -- A fault is always among what a run may give.
-use Rattle.std.proofs.Common.{arith, ◌≡◌, ℕ, List, Option, Some, None, Bool, [], refl, sym, subst, inl, inr, codes}
+use Rattle.std.proofs.Common.{arith, ◌≡◌, ℕ, List, Option, Some, None, Bool, [], refl, sym, subst, inl, inr, codes, ◌∙◌}
 use Rattle.std.specs.Prelude.{IfSome, ◌≤◌, ◌⊎◌, ◌++◌, decimal}
 use Rattle.disk_file.specs.declared.opening.FileKind.{FileKind}
 use Rattle.run_log.specs.LogLines.{kind_refusal}
 use Rattle.log_part.specs.declared.part.Part.{Part}
 use Rattle.program_files.specs.Streams.{Stream, stream, IsKept, Begins, TellsUnread, TellsUnwritten, IsToldOrNoMemory}
 use Rattle.program_files.specs.Following.{IsFollowed, StopsBehind, Refused, RefusedInPart, NotPrinted, NotRead, OutOfMemory}
-use Rattle.procd.specs.Streams.{Ends, Runs, IsLog, IsRefusedBy, FurtherFails, ScriptFails, LogFails, PartFails, followed_part}
+use Rattle.procd.specs.Streams.{Ends, Runs, RunsOnce, Serves, IsReportTold, IsEndTold, IsServedOf, IsServing, IsLog, IsRefusedBy, FurtherFails, ScriptFails, LogFails, PartFails, followed_part}
 use Rattle.procd.specs.Joining.Further.{Keeps, Reads, Writes}
-use Rattle.command_line.specs.Task.{Wish, Exec, Asm, Dis, Verify, World, Run, Partitioned, Log}
+use Rattle.command_line.specs.Task.{Wish, Exec, Asm, Dis, Verify, World, Run, Partitioned, Serve, Log}
 use Rattle.command_line.specs.Task.{Events, EventsAndRows, Follow, Audit, Picture}
 use Rattle.procd.proofs.Statuses.{report_low}
+use Rattle.serve_command.specs.declared.serving.End.{End}
+use Rattle.serve_command.specs.declared.serving.End.TheVariants as end
+use Rattle.procd.proofs.ServedStatuses.{HasLowStatus, served_of_low}
 
 -- some text that is there to be read
 abbrev known : Option (List ℕ) → List ℕ
@@ -23,12 +26,12 @@ known_is (Some text) = refl
 
 module _ (file : List ℕ) (wish : Wish) (input : Option (List ℕ)) (out err : Stream) (status : ℕ) where
   pub no_memory_runs : status ≡ 4 → IsKept out → Begins err (codes "memory\n") → Runs file wish input out err status
-  no_memory_runs is kept told = inl (known input, (λ e. known_is input), inr (inl (is, kept, told)), inr (inr (is, kept, told)))
+  no_memory_runs is kept told = inl (inl (known input, (λ e. known_is input), inr (inl (is, kept, told)), inr (inr (is, kept, told))))
 
   -- what is read is standard input, or a file that isn't followed; or it isn't a file of bytes, or it is followed
   pub read_runs : (followed_part wish ≡ None) ⊎ (file ≡ codes "-") → (text : List ℕ) → (file ≡ codes "-" → IfSome input (λ known. text ≡ known))
       → Ends file wish text out err status → Runs file wish input out err status
-  read_runs way text same h = inl (text, same, h, elim way [ inl whole ↦ inl whole | inr is ↦ inr (inl is) ])
+  read_runs way text same h = inl (inl (text, same, h, elim way [ inl whole ↦ inl whole | inr is ↦ inr (inl is) ]))
 
   pub unread_runs : (followed_part wish ≡ None) ⊎ (file ≡ codes "-") → IsToldOrNoMemory (TellsUnread file err) err status → IsKept out
       → Runs file wish input out err status
@@ -40,11 +43,16 @@ module _ (file : List ℕ) (wish : Wish) (input : Option (List ℕ)) (out err : 
 
   pub kind_runs : ¬ (file ≡ codes "-") → IsLog wish → (kind : FileKind) → IsRefusedBy (kind_refusal kind) out err status
       → Runs file wish input out err status
-  kind_runs differs log kind refused = inr (differs, inl (log, (kind, refused)))
+  kind_runs differs log kind refused = inl (inr (differs, inl (log, (kind, refused))))
 
   pub followed_runs : ¬ (file ≡ codes "-") → (part : Part) → followed_part wish ≡ Some part → IsFollowed file part out err status
       → Runs file wish input out err status
-  followed_runs differs part is followed = inr (differs, inr (part, is, followed))
+  followed_runs differs part is followed = inl (inr (differs, inr (part, is, followed)))
+
+  -- calls are served
+  pub serve_runs : (text : List ℕ) → (file ≡ codes "-" → IfSome input (λ known. text ≡ known)) → Serves wish file text input out err status
+      → Runs file wish input out err status
+  serve_runs text same h = inr (text, same, h)
 
 -- a further file that isn't read is told, and so is one that isn't written
 script_fails : (script : Option (List ℕ)) (path : List ℕ) (err : Stream) → script ≡ Some path → TellsUnread path err → ScriptFails script err
@@ -62,6 +70,8 @@ read_fails (World log audit script) path err is told = script_fails script path 
 read_fails (Run workers tries stats audit strict results tell metrics trace log checkpoint over script) path err is told =
     elim is [ inl keeps ↦ inl (log_fails log path err keeps (inl told)) | inr beside ↦ inr (script_fails script path err beside told) ]
 read_fails (Partitioned workers tries audit strict log script) path err is told = inr (script_fails script path err is told)
+read_fails (Serve workers tries results metrics log over script) path err is told =
+    elim is [ inl keeps ↦ inl (log_fails log path err keeps (inl told)) | inr beside ↦ inr (script_fails script path err beside told) ]
 read_fails (Log (Events part)) path err is told = absurd is
 read_fails (Log EventsAndRows) path err is told = absurd is
 read_fails (Log (Follow part)) path err is told = absurd is
@@ -80,6 +90,7 @@ write_fails Verify path err is told = absurd is
 write_fails (World log audit script) path err is told = absurd is
 write_fails (Run workers tries stats audit strict results tell metrics trace log checkpoint over script) path err is told = inl (log_fails log path err is (inr told))
 write_fails (Partitioned workers tries audit strict log script) path err is told = absurd is
+write_fails (Serve workers tries results metrics log over script) path err is told = inl (log_fails log path err is (inr told))
 write_fails (Log (Events part)) path err is told = absurd is
 write_fails (Log EventsAndRows) path err is told = absurd is
 write_fails (Log (Follow part)) path err is told = absurd is
@@ -105,6 +116,7 @@ keep_fails Verify log err is told = absurd is
 keep_fails (World l audit script) log err is told = absurd is
 keep_fails (Run workers tries stats audit strict results tell metrics trace l checkpoint over script) log err is told = absurd is
 keep_fails (Partitioned workers tries audit strict l script) log err is told = inl (subst (λ (o : Option (List ℕ)). PartFails o err) (sym is) told)
+keep_fails (Serve workers tries results metrics l over script) log err is told = absurd is
 keep_fails (Log wanted) log err is told = absurd is
 
 module _ (file : List ℕ) (wish : Wish) (text : List ℕ) (out err : Stream) (status : ℕ) where
@@ -185,14 +197,42 @@ stopped_otherwise path printed out err status (NotPrinted three begins told) is 
 stopped_otherwise path printed out err status (NotRead three gets told) is = not_three status three is
 stopped_otherwise path printed out err status (OutOfMemory four gets told) is = not_four status four is
 
+told_otherwise : (Told : Type 0) (err : Stream) (status : ℕ) → IsToldOrNoMemory Told err status → status ≡ 2 → ⊥
+told_otherwise Told err status h is =
+    elim h [ inl told ↦ not_three status told.0 is | inr memory ↦ not_four status memory.0 is ]
+
+end_otherwise : (log : Option (List ℕ)) (out err : Stream) (status : ℕ) (e : End) → HasLowStatus e → IsEndTold log out err status e → status ≡ 2 → ⊥
+end_otherwise log out err status (end.Ended report) low h is =
+    elim h [ inl write ↦ not_three status write.0 is | inr done ↦ not_low report.status low (sym done.0 ∙ is) ]
+end_otherwise log out err status (end.Unread reason) low h is = told_otherwise (TellsUnread (codes "-") err) err status h.1 is
+end_otherwise log out err status (end.Unwritten error) low h is = not_three status h.1 is
+end_otherwise log out err status (end.Stopped stop) low h is = told_otherwise (LogFails log err) err status h.1 is
+
+serving_otherwise : (wish : Wish) (file text : List ℕ) (input : Option (List ℕ)) (out err : Stream) (status : ℕ)
+    → Serves wish file text input out err status → status ≡ 2 → ⊥
+serving_otherwise (Serve workers tries results metrics log over script) file text input out err status h is =
+    end_otherwise log (stream h.told out.new) err status h.e (served_of_low results workers tries log script text h.before h.after (stream out.old h.told) h.e h.served)
+    h.end_told is
+serving_otherwise (Exec raw numbers) file text input out err status h is = absurd h
+serving_otherwise Asm file text input out err status h is = absurd h
+serving_otherwise (Dis raw) file text input out err status h is = absurd h
+serving_otherwise Verify file text input out err status h is = absurd h
+serving_otherwise (World log audit script) file text input out err status h is = absurd h
+serving_otherwise (Run workers tries stats audit strict results tell metrics trace log checkpoint over script) file text input out err status h is = absurd h
+serving_otherwise (Partitioned workers tries audit strict log script) file text input out err status h is = absurd h
+serving_otherwise (Log wanted) file text input out err status h is = absurd h
+
 -- a command never ends as a wrong command line does
 pub never_wrong : (file : List ℕ) (wish : Wish) (input : Option (List ℕ)) (out err : Stream) (status : ℕ)
     → Runs file wish input out err status → status ≡ 2 → ⊥
 never_wrong file wish input out err status h is =
     elim h [
-      | inl read ↦ ends_otherwise file wish read.0 out err status read.2 is
-      | inr named ↦ elim named.1 [
-        | inl kind ↦ refused_otherwise (kind_refusal kind.1.0) out err status kind.1.1 is
-        | inr followed ↦ stopped_otherwise file followed.2.printed out (stream followed.2.told err.new) status followed.2.stops is
+      | inl once ↦ elim once [
+        | inl read ↦ ends_otherwise file wish read.0 out err status read.2 is
+        | inr named ↦ elim named.1 [
+          | inl kind ↦ refused_otherwise (kind_refusal kind.1.0) out err status kind.1.1 is
+          | inr followed ↦ stopped_otherwise file followed.2.printed out (stream followed.2.told err.new) status followed.2.stops is
+        ]
       ]
+      | inr served ↦ serving_otherwise wish file served.0 input out err status served.2 is
     ]

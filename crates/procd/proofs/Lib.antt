@@ -1,3 +1,4 @@
 pub mod Statuses
 pub mod Faults
 pub mod Sources
+pub mod ServedStatuses

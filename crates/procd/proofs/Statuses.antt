@@ -4,7 +4,7 @@ use Rattle.std.proofs.Common.{true, false}
 use Rattle.std.specs.Prelude.{Result, Ok, Err, is_some, ◌≡◌, ◌≤◌, ◌&&◌, ◌||◌, if◌then◌else◌}
 use Rattle.text_commands.specs.Execution.{status_of}
 use Rattle.report_texts.specs.Hex.{Hex, hex_of}
-use Rattle.command_line.specs.Task.{Wish, Exec, Asm, Dis, Verify, World, Run, Partitioned, Log}
+use Rattle.command_line.specs.Task.{Wish, Exec, Asm, Dis, Verify, World, Run, Partitioned, Serve, Log}
 use Rattle.command_line.specs.Task.{Events, EventsAndRows, Follow, Audit, Picture}
 use Rattle.log_part.specs.declared.part.Part.{Part}
 use Rattle.log_part.specs.declared.part.Part.TheVariants.{Whole}
@@ -216,6 +216,7 @@ report_low (World log audit script) file status lines h = world_of_low (record {
 report_low (Run workers tries stats audit strict results tell metrics trace log checkpoint over script) file status lines h =
     run_of_low (record { at_end = checkpoint; over = over }) workers tries audit strict results log script file status lines h
 report_low (Partitioned workers tries audit strict log script) file status lines h = partitioned_of_low (is_some log) workers tries audit strict script file status lines h
+report_low (Serve workers tries results metrics log over script) file status lines h = absurd h
 report_low (Log (Events part)) text status lines h = listing_low part false text status lines h
 report_low (Log EventsAndRows) text status lines h = listing_low Whole true text status lines h
 report_low (Log (Picture path part)) text status lines h = picturing_low part text h.0 status lines h.1

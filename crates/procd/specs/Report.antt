@@ -1,7 +1,7 @@
 -- What is printed, and the exit status.
 use Rattle.std.specs.Prelude.{ℕ, Bool, true, false, List, Option, Some, None, is_some}
 use Rattle.bpf_asm.specs.Lines.{assembled}
-use Rattle.command_line.specs.Task.{Wish, Exec, Asm, Dis, Verify, World, Run, Partitioned, Log}
+use Rattle.command_line.specs.Task.{Wish, Exec, Asm, Dis, Verify, World, Run, Partitioned, Serve, Log}
 use Rattle.command_line.specs.Task.{LogWish, Events, EventsAndRows, Follow, Audit, Picture}
 use Rattle.log_part.specs.declared.part.Part.TheVariants.{Whole}
 use Rattle.script_loading.specs.Loading.{Beginning, beginning}
@@ -60,7 +60,7 @@ IsLogReport (Picture path part) file status lines = (svg : Option (List ℕ)) ×
 IsLogReport (Audit source None) file status lines = IsAuditBeside None file status lines
 IsLogReport (Audit source (Some script)) file status lines = (object : List ℕ) × IsAuditBeside (Some object) file status lines
 
--- what a command prints of a text, and its exit status
+-- what a command prints of a text, and its exit status; what is printed of calls that are served comes with them
 abbrev pub IsReport : Wish → List ℕ → ℕ → List ℕ → Type 0
 IsReport (Exec raw numbers) text status lines = IsExecution (text_execution raw text numbers) status lines
 IsReport Asm text status lines = IsAssembly (assembled text) status lines
@@ -70,4 +70,5 @@ IsReport (World log audit script) file status lines = IsWorldOf (record { audit 
 IsReport (Run workers tries stats audit strict results tell metrics trace log checkpoint over script) file status lines =
     IsRunOf (record { at_end = checkpoint; over = over }) workers tries audit strict results log script file status lines
 IsReport (Partitioned workers tries audit strict log script) file status lines = IsPartitionedOf (is_some log) workers tries audit strict script file status lines
+IsReport (Serve workers tries results metrics log over script) file status lines = ⊥
 IsReport (Log wanted) file status lines = IsLogReport wanted file status lines

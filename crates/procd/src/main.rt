@@ -15,6 +15,7 @@
 
 mod program;
 mod report;
+mod serving;
 mod streams;
 
 use program::{no_memory, not_text, program};
@@ -40,6 +41,7 @@ fn main(rt: HostRuntime) -> ExitCode {
     let progress = Meanwhile {
         terminal: err.is_terminal().then_some(err),
         error: err,
+        prompt: input.is_terminal().then_some(err),
         system: rt,
     };
     let mut streams = Streams {

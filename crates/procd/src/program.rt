@@ -1,7 +1,7 @@
 //! The program, over readers and writers that are handed in.
 
 ghost use Rattle.std.specs.Prelude.{◌≡◌, ◌⊎◌, ◌++◌, ℕ, List, Option, IfOk, IfErr, IfSome, None, Some, Ok, Err, true, false};
-ghost use Rattle.std.specs.Prelude.{codes, map, string_bytes};
+ghost use Rattle.std.specs.Prelude.{codes, map, option_map, string_bytes};
 ghost use Rattle.command_line.specs.Said.{Says, IsWrong, shows};
 ghost use Rattle.command_line.specs.Wanted.{WantsOrNoMemory, IsWrongOrNoMemory};
 ghost use Rattle.program_files.specs.Streams.{stream, Begins, IsFaultLine};
@@ -9,18 +9,21 @@ ghost use Rattle.program_files.specs.Streams.{TellsUnread, TellsUnwritten, Tells
 ghost use Rattle.program_files.specs.Following.{IsFollowed};
 ghost use Rattle.run_log.specs.LogLines.{kind_refusal};
 ghost use Rattle.procd.specs.Streams.{TellsIf, Ends, Runs, IsMisuse, followed_part, IsLog, IsRefusedBy, PartFails};
-ghost use Rattle.procd.specs.Joining.Ways.{IsWay};
+ghost use Rattle.procd.specs.Streams.{IsReportTold, LogFails};
+ghost use Rattle.procd.specs.Joining.Ways.{IsWay, ServesOrEnds};
+ghost use Rattle.command_line.specs.declared.words.Task.TheVariants.{Serve as Served};
 ghost use Rattle.procd.specs.Joining.Further.{IsTaskFault};
 ghost use Rattle.procd.specs.Report.{IsReport};
 ghost use Rattle.command_line.specs.Task.{Wish, wish_of};
 ghost use Rattle.clap.specs.Words.{kind_of};
 
 use crate::report::{ReportFault, report_on};
+use crate::serving::served;
 use crate::streams::Streams;
 use clap::Error;
 use clap::error::ErrorKind;
 use command_line::numbers::NoNumber;
-use command_line::words::{LogTask, Task, Wanted, WordFault, wanted_of};
+use command_line::words::{LogTask, ServeTask, Task, Wanted, WordFault, wanted_of};
 use disk_file::{FileFault, FileKind};
 use log_part::Part;
 use partitioned_run::running::file_of;
@@ -30,6 +33,7 @@ use program_files::reading::{Kind, ReadFault, Reason, read_given};
 use program_files::writing::tell;
 use report_texts::output::Output;
 use run_ground::stop::Stop;
+use serve_command::serving::End as ServeEnd;
 use run_log::recovering::kind_refusal;
 use std::alloc::{AllocError, Global};
 use std::convert::AsStr;
@@ -269,6 +273,72 @@ fn run_on<F: Files<File = File> + Clock + Wait, W: Write, E: Write>(
     }
 }
 
+// Writes what is left to be written at the end of calls that were served.
+fn tell_ended<F: Files<File = File>, W: Write, E: Write>(
+    rt: &F,
+    alloc: Global,
+    wanted: &Wanted,
+    text: &[u8],
+    report: Output,
+    streams: &mut Streams<W, E>,
+) -> u8
+    ensures { IsReportTold report (stream (W.contents streams.old.out) (W.contents streams.new.out))
+        (stream (E.contents streams.old.err) (E.contents streams.new.err)) result }
+{
+    if let Err(error) = tell(&mut streams.out, report.lines.as_str()) {
+        drop(report);
+        return cannot_write(alloc, &mut streams.err, error);
+    }
+    if let Some(terminal) = streams.progress.terminal {
+        explain(rt, alloc, terminal, wanted, text, &report);
+    }
+    tell_notes(&mut streams.err, true, &report);
+    let status = report.status;
+    drop(report);
+    status
+}
+
+// Says that the log of served calls isn't read or kept, and why, or that memory ran out.
+fn tell_stop<E: Write>(alloc: Global, err: &mut E, log: Option<&str>, stop: Stop) -> u8
+    ensures { IsToldOrNoMemory (LogFails (option_map (λ path. path.now) log.entry) (stream (E.contents err.old) (E.contents err.new)))
+        (stream (E.contents err.old) (E.contents err.new)) result }
+{
+    match (log, stop) {
+        (Some(path), Stop::Unread(fault)) => {
+            cannot_read(alloc, err, path, Some(&Reason::File(fault)))
+        }
+        (Some(path), Stop::NotKept(fault)) => {
+            let reason = fault.map(Reason::File);
+            cannot_write_file(alloc, err, path, reason.as_ref())
+        }
+        _ => no_memory(err),
+    }
+}
+
+// Serves calls of the procedures of a text.
+fn serve_text<F: Files<File = File> + Clock + Threads + Wait + Sync, R: Read, W: Write, E: Write>(
+    rt: &F,
+    alloc: Global,
+    wanted: &Wanted,
+    task: &ServeTask,
+    text: &[u8],
+    input: &mut R,
+    streams: &mut Streams<W, E>,
+) -> u8
+    ensures { wish_of wanted.now.task ≡ wish_of (Served task.now) → ServesOrEnds wanted.now.file.now (wish_of wanted.now.task) text.now
+        (R.remaining input.old) (stream (W.contents streams.old.out) (W.contents streams.new.out))
+        (stream (E.contents streams.old.err) (E.contents streams.new.err)) result }
+{
+    let progress = streams.progress;
+    match served(rt, alloc, task, text, input, &mut streams.out, progress) {
+        Ok(ServeEnd::Ended(report)) => tell_ended(rt, alloc, wanted, text, report, streams),
+        Ok(ServeEnd::Unread(reason)) => cannot_read(alloc, &mut streams.err, "-", Some(&reason)),
+        Ok(ServeEnd::Unwritten(error)) => cannot_write(alloc, &mut streams.err, error),
+        Ok(ServeEnd::Stopped(stop)) => tell_stop(alloc, &mut streams.err, task.log, stop),
+        Err(fault) => tell_report(rt, alloc, wanted, text, Err(fault), streams),
+    }
+}
+
 // From which part of its events on a log is followed, if it is.
 fn followed_part(task: &Task) -> Option<Part>
     ensures { result ≡ followed_part (wish_of task.now) }
@@ -333,6 +403,9 @@ fn run_wanted<F: Files<File = File> + Clock + Threads + Wait + Sync, R: Read, W:
         Way::Read => match read_given(rt, alloc, wanted.file, input, kind_of_file(&wanted.task)) {
             Ok(text) => {
                 let text = text.as_slice();
+                if let Task::Serve(task) = &wanted.task {
+                    return serve_text(rt, alloc, wanted, task, text, input, streams);
+                }
                 let report = report_on(rt, alloc, &wanted.task, text, streams.progress);
                 tell_report(rt, alloc, wanted, text, report, streams)
             }
@@ -425,12 +498,12 @@ const TWO_PARTS: &str = "error: log takes one of --from and --tail";
 const PART_UNWANTED: &str = "error: log takes --from and --tail with neither --rows nor --audit";
 
 const CHECKPOINT_ALONE: &str =
-    "error: run takes --checkpoint and --checkpoint-over with --log alone: what begins anew is its file";
+    "error: --checkpoint and --checkpoint-over go with --log alone: what begins anew is its file";
 
 const PARTITIONS_BESIDE: &str =
     "error: run takes --partitions with none of --stats, --results, --tell, --metrics, --trace, --checkpoint and --checkpoint-over: no log has all calls";
 
-const NO_COMMAND: &str = "error: a command is missing: exec, asm, dis, verify, world, run or log";
+const NO_COMMAND: &str = "error: a command is missing: exec, asm, dis, verify, world, run, serve or log";
 
 // Refuses a wrong command line, or shows the help that it asks for.
 fn refuse_words<W: Write, E: Write>(

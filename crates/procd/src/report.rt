@@ -97,8 +97,8 @@ fn read_script<'a, R: Files>(
     }
 }
 
-// What is read beside FILE: the script that this path names, if there is one.
-fn read_beside<'a, R: Files>(
+/// What is read beside FILE: the script that this path names, if there is one.
+pub fn read_beside<'a, R: Files>(
     rt: &R,
     alloc: Global,
     path: Option<&'a str>,
@@ -112,8 +112,8 @@ fn read_beside<'a, R: Files>(
     }
 }
 
-// FILE as a script; or as an object file, with the script of this path, which has what was read beside it.
-fn source_of<'t, 'a>(
+/// FILE as a script; or as an object file, with the script of this path, which has what was read beside it.
+pub fn source_of<'t, 'a>(
     file: &'t [u8],
     path: Option<&'a str>,
     beside: &'t [u8],
@@ -445,6 +445,8 @@ pub fn report_on<'a, R: Files<File = File> + Clock + Threads + Wait + Sync>(
                 listeners,
             )
         }
+        // What it says is told while calls come.
+        Task::Serve(_) => Err(ReportFault::Memory),
         Task::Dis { raw } => Ok(disassembly(alloc, *raw, text)?),
         Task::Log(wanted) => log_report(rt, alloc, text, *wanted),
     }

@@ -9,6 +9,8 @@ pub struct Meanwhile {
     /// The terminal, if standard error is one.
     pub terminal: Option<Stderr>,
     pub error: Stderr,
+    /// Where a line of standard input is asked for, if that is a terminal.
+    pub prompt: Option<Stderr>,
     /// What writes files from the threads of a run.
     pub system: HostRuntime,
 }

@@ -2,7 +2,7 @@
 
 use crate::reading::{read_file, text_of};
 use command_line::numbers::NumberOption;
-use command_line::words::{PartitionedTask, RunTask, Task, Wanted};
+use command_line::words::{PartitionedTask, RunTask, ServeTask, Task, Wanted};
 use disk_file::FileKind;
 use object_file::is_elf;
 use report_texts::explanation::explanation;
@@ -27,7 +27,8 @@ fn script_command(task: &Task) -> Option<Command> {
         Task::Verify => Some(Command::Verify),
         Task::World { script: None, .. } => Some(Command::World),
         Task::Run(RunTask { script: None, .. })
-        | Task::Partitioned(PartitionedTask { script: None, .. }) => Some(Command::Run),
+        | Task::Partitioned(PartitionedTask { script: None, .. })
+        | Task::Serve(ServeTask { script: None, .. }) => Some(Command::Run),
         _ => None,
     }
 }
@@ -46,6 +47,10 @@ fn takes_object(task: &Task) -> bool {
                 ..
             })
             | Task::Partitioned(PartitionedTask {
+                script: Some(_),
+                ..
+            })
+            | Task::Serve(ServeTask {
                 script: Some(_),
                 ..
             })
@@ -142,6 +147,7 @@ fn counts_of(task: &Task) -> Option<(u64, u64)> {
     match task {
         Task::Run(task) => Some((task.workers, task.tries)),
         Task::Partitioned(task) => Some((task.workers, task.tries)),
+        Task::Serve(task) => Some((task.workers, task.tries)),
         _ => None,
     }
 }

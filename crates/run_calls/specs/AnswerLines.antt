@@ -34,26 +34,26 @@ answer_lines word answers = lines_from (answer_line word) 0 answers
 
 -- ---- what a call's slots hold
 
--- a line of a slot that holds a record: the call's place in its list, the slot and the value
-abbrev pub slot_line : ℕ → ℕ → Option SlotResult → List ℕ
-slot_line place slot None = []
-slot_line place slot (Some held) =
-    if held.is_there then codes "result " ++ (decimal place ++ (codes " " ++ (decimal slot ++ (codes " " ++ (value_text held.value ++ codes "\n"))))) else
+-- a line of a slot that holds a record: the call's label, the slot and the value
+abbrev pub slot_line : List ℕ → ℕ → Option SlotResult → List ℕ
+slot_line label slot None = []
+slot_line label slot (Some held) =
+    if held.is_there then codes "result " ++ (label ++ (codes " " ++ (decimal slot ++ (codes " " ++ (value_text held.value ++ codes "\n"))))) else
     []
 
 -- of the first so many slots of the call whose end stands at a place of the log
-abbrev pub slot_lines : List Checked → List Event → ℕ → ℕ → ℕ → List ℕ
-slot_lines ps h place end zero = []
-slot_lines ps h place end (suc slot) = slot_lines ps h place end slot ++ slot_line place slot (result_at_end ps h end slot)
+abbrev pub slot_lines : List Checked → List Event → List ℕ → ℕ → ℕ → List ℕ
+slot_lines ps h label end zero = []
+slot_lines ps h label end (suc slot) = slot_lines ps h label end slot ++ slot_line label slot (result_at_end ps h end slot)
 
 -- of each slot of a call that committed
-abbrev pub result_lines : List Checked → List Event → ℕ → Answer → List ℕ
-result_lines ps h place (Committed end) = slot_lines ps h place end (slots_at_end ps h end)
-result_lines ps h place _ = []
+abbrev pub result_lines : List Checked → List Event → List ℕ → Answer → List ℕ
+result_lines ps h label (Committed end) = slot_lines ps h label end (slots_at_end ps h end)
+result_lines ps h label _ = []
 
--- the line of a call's answer, and behind it what its slots hold, where that is wanted
+-- the line of a call's answer, and behind it what its slots hold, where that is wanted; its label is its place
 abbrev pub call_line : Bool → List Checked → List Event → ℕ → Answer → List ℕ
-call_line results ps h place answer = answer_line (codes "call") place answer ++ (if results then result_lines ps h place answer else [])
+call_line results ps h place answer = answer_line (codes "call") place answer ++ (if results then result_lines ps h (decimal place) answer else [])
 
 -- of the second list's calls from this place on
 abbrev pub call_lines : Bool → List Checked → List Event → ℕ → List Answer → List ℕ

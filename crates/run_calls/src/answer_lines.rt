@@ -3,7 +3,7 @@
 ghost use Rattle.std.specs.Prelude.{◌≡◌, ◌++◌, ◌≤◌, length, drop, IfOk, OnOk, option_map, string_bytes};
 ghost use Rattle.call_results.specs.Results.{slots_at_end};
 ghost use Rattle.run_calls.specs.AnswerLines.{answer_text, answer_line, answer_lines, fault_line};
-ghost use Rattle.run_calls.specs.AnswerLines.{slot_line, slot_lines, call_line, call_lines};
+ghost use Rattle.run_calls.specs.AnswerLines.{slot_line, slot_lines, result_lines, call_line, call_lines};
 
 use call_results::{SlotResult, logged_result, logged_slot_count};
 use run_ground::stop::Stop;
@@ -13,8 +13,8 @@ use std::alloc::{AllocError, Global};
 use tc_core::state::TcState;
 use worker_pool::Answer;
 
-// What a call was answered.
-fn answer_text(alloc: Global, answer: &Answer) -> Result<String, AllocError>
+/// What a call was answered.
+pub fn answer_text(alloc: Global, answer: &Answer) -> Result<String, AllocError>
     ensures { IfOk result (λ s. string_bytes s ≡ answer_text answer.now) }
 {
     match answer {
@@ -63,14 +63,14 @@ pub fn write_answers(
     Ok(())
 }
 
-// The line of what a slot of the call at this place of its list holds, where that is a record.
+// The line of what a slot of the call with this label holds, if that is a record.
 fn slot_line(
     alloc: Global,
-    place: usize,
+    label: &str,
     slot: usize,
     held: Option<SlotResult>,
 ) -> Result<String, AllocError>
-    ensures { IfOk result (λ s. string_bytes s ≡ slot_line place slot held) }
+    ensures { IfOk result (λ s. string_bytes s ≡ slot_line label.now slot held) }
 {
     let Some(held) = held else {
         return Ok(String::new(alloc));
@@ -79,29 +79,46 @@ fn slot_line(
         return Ok(String::new(alloc));
     }
     let value = value_text(alloc, &held.value)?;
-    format!(in alloc; "result {place} {slot} {value}\n")
+    format!(in alloc; "result {label} {slot} {value}\n")
 }
 
 // Adds these lines of each slot of the call whose end stands at a place of the log.
 fn write_slots(
     alloc: Global,
     state: &TcState,
-    place: usize,
+    label: &str,
     end: usize,
     lines: &mut String,
 ) -> Result<(), AllocError>
     ensures { OnOk result (string_bytes lines.new ≡ string_bytes lines.old
-        ++ slot_lines state.now.procs state.now.events place end (slots_at_end state.now.procs state.now.events end)) }
+        ++ slot_lines state.now.procs state.now.events label.now end (slots_at_end state.now.procs state.now.events end)) }
 {
     state.known();
     let procs = state.procs();
     let log = state.log();
     for slot in 0..logged_slot_count(procs, log, end) {
         let held = logged_result(procs, log, end, slot);
-        let line = slot_line(alloc, place, slot, held)?;
+        let line = slot_line(alloc, label, slot, held)?;
         lines.push_str(line.as_str())?;
     }
     Ok(())
+}
+
+/// Adds the lines of what the slots of the call with this label hold, if it committed.
+pub fn write_results(
+    alloc: Global,
+    state: &TcState,
+    label: &str,
+    answer: &Answer,
+    lines: &mut String,
+) -> Result<(), AllocError>
+    ensures { OnOk result (string_bytes lines.new ≡ string_bytes lines.old
+        ++ result_lines state.now.procs state.now.events label.now answer.now) }
+{
+    match answer {
+        Answer::Committed(end) => write_slots(alloc, state, label, *end, lines),
+        _ => Ok(()),
+    }
 }
 
 // Adds the line of the call at this place of the second list, and behind it what its slots hold, where that is wanted.
@@ -118,10 +135,11 @@ fn write_call(
 {
     let line = answer_line(alloc, "call", place, answer)?;
     lines.push_str(line.as_str())?;
-    match (results, answer) {
-        (true, Answer::Committed(end)) => write_slots(alloc, state, place, *end, lines),
-        _ => Ok(()),
+    if !results {
+        return Ok(());
     }
+    let label = format!(in alloc; "{place}")?;
+    write_results(alloc, state, label.as_str(), answer, lines)
 }
 
 /// Adds the lines of the second list's calls behind so many of these answers, by the state behind them. Where results are

@@ -2,7 +2,7 @@
 -- is to have a picture.
 use Rattle.std.specs.Prelude.{◌≡◌, ◌⊎◌, true, Bool, not, List, ℕ, Option, Some, None, option_map}
 use Rattle.program_files.specs.Texts.{IsTextFault}
-use Rattle.command_line.specs.Task.{Wish, Verify, World, Run, Partitioned, Log, Audit, Picture, reads_text}
+use Rattle.command_line.specs.Task.{Wish, Verify, World, Run, Partitioned, Serve, Log, Audit, Picture, reads_text}
 use Rattle.object_file.specs.Elf.{is_elf}
 use Rattle.script_loading.specs.declared.loading.Source.{Source}
 use Rattle.procd.specs.declared.report.ReportFault.{ReportFault}
@@ -13,12 +13,14 @@ abbrev pub Reads : Wish → List ℕ → Type 0
 Reads (World log audit script) path = script ≡ Some path
 Reads (Run workers tries stats audit strict results tell metrics trace log checkpoint over script) path = (log ≡ Some path) ⊎ (script ≡ Some path)
 Reads (Partitioned workers tries audit strict log script) path = script ≡ Some path
+Reads (Serve workers tries results metrics log over script) path = (log ≡ Some path) ⊎ (script ≡ Some path)
 Reads (Log (Audit source script)) path = (source ≡ path) ⊎ (script ≡ Some path)
 Reads other path = ⊥
 
 -- it writes it
 abbrev pub Writes : Wish → List ℕ → Type 0
 Writes (Run workers tries stats audit strict results tell metrics trace log checkpoint over script) path = log ≡ Some path
+Writes (Serve workers tries results metrics log over script) path = log ≡ Some path
 Writes (Log (Picture file part)) path = file ≡ path
 Writes other path = ⊥
 

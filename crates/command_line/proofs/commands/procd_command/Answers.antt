@@ -12,5 +12,6 @@ returns c =
     let verify = c.with_command-with_verify.ensures _ _ dis c.verify_command.ensures.app c.verify_command.ensures.local in
     let world = c.with_command-with_world.ensures _ _ verify c.world_command.ensures.app c.world_command.ensures.local in
     let run = c.with_command-with_run.ensures _ _ world c.run_command.ensures.app c.run_command.ensures.local in
-    let log = c.in_ok-with_log.ensures _ _ run c.log_command.ensures.app c.log_command.ensures.local in
+    let serve = c.with_command-with_serve.ensures _ _ run c.serve_command.ensures.app c.serve_command.ensures.local in
+    let log = c.in_ok-with_log.ensures _ _ serve c.log_command.ensures.app c.log_command.ensures.local in
     ap app_of_fields c.version.ensures ∙ ap with_version (ap app_of_fields c.about.ensures ∙ log)

@@ -2,7 +2,7 @@ use Rattle.std.proofs.Common.{ℕ, List, sym, subst}
 use Rattle.std.proofs.lemmas.Result.{IfOk-weaker}
 use Rattle.command_line.specs.Said.{IsUnfit}
 use Rattle.clap.specs.Words.{found_of, rows_of}
-use Rattle.command_line.proofs.Wishes.{wants_exec, wants_dis, wants_world, wants_run, wants_log, lacks_no_argument}
+use Rattle.command_line.proofs.Wishes.{wants_exec, wants_dis, wants_world, wants_run, wants_serve, wants_log, lacks_no_argument}
 use Rattle.command_line.proofs.Wishes.{asm_lacks_nothing, dis_lacks_nothing, verify_lacks_nothing, world_lacks_nothing}
 use Rattle.command_line.proofs.words.task_of.Goals as goal
 
@@ -24,6 +24,10 @@ pub returns-in-run-clause-task : goal.returns-in-run-clause-task
 returns-in-run-clause-task c =
     wants_run c.args.name.now (rows_of (found_of c.args.matches.now)) c.run_task.result c.in-run.is c.run_task.ensures.task
     c.run_task.ensures.partitioned
+
+pub returns-in-serve-clause-task : goal.returns-in-serve-clause-task
+returns-in-serve-clause-task c =
+    wants_serve c.args.name.now (rows_of (found_of c.args.matches.now)) c.serve_task.result c.in-serve.is c.serve_task.ensures.task
 
 pub returns-in-log-clause-task : goal.returns-in-log-clause-task
 returns-in-log-clause-task c = wants_log c.args.name.now (rows_of (found_of c.args.matches.now)) c.log_task.result c.in-log.is c.log_task.ensures.task
@@ -48,6 +52,11 @@ pub returns-in-run-clause-wrong : goal.returns-in-run-clause-wrong
 returns-in-run-clause-wrong c =
     IfOk-weaker c.run_task.result _ _ (λ task h. subst (λ (n : List ℕ). ¬ IsUnfit n (rows_of (found_of c.args.matches.now))) (sym c.in-run.is) h)
     c.run_task.ensures.wrong
+
+pub returns-in-serve-clause-wrong : goal.returns-in-serve-clause-wrong
+returns-in-serve-clause-wrong c =
+    IfOk-weaker c.serve_task.result _ _ (λ task h. subst (λ (n : List ℕ). ¬ IsUnfit n (rows_of (found_of c.args.matches.now))) (sym c.in-serve.is) h)
+    c.serve_task.ensures.wrong
 
 pub returns-in-log-clause-wrong : goal.returns-in-log-clause-wrong
 returns-in-log-clause-wrong c =

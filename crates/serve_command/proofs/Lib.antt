@@ -1,0 +1,3 @@
+pub mod AskedLemmas
+pub mod ServeLemmas
+pub mod EndLemmas

@@ -1,0 +1,2 @@
+-- How far calls were served.
+pub mod Sessions
