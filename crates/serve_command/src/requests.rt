@@ -1,11 +1,11 @@
 //! What the lines of standard input ask for.
 
-ghost use Rattle.std.specs.Prelude.{◌≡◌, [], IfOk, OnOk, Result};
+ghost use Rattle.std.specs.Prelude.{◌≡◌, [], Ok, Err, IfOk, IfErr, OnOk, Result};
 ghost use Rattle.scripts.specs.Numbers.{Gives};
-ghost use Rattle.scripts.specs.declared.script.Call.{Call as said};
+ghost use Rattle.scripts.specs.declared.script.Call.{Call as SaidCall};
 ghost use Rattle.scripts.specs.declared.fault.ScriptFault.{ScriptFault as FaultValue};
 ghost use Rattle.serve_command.specs.Requests.{without_return, call_said, asked_in, asked_of, AreAsked};
-ghost use Rattle.serve_command.specs.Joining.Sessions.{AddsAsked, AddsRequest, IsWordOf};
+ghost use Rattle.serve_command.specs.Joining.Sessions.{AddsAsked, AddsRequest, word_and_rest};
 
 use bpf_asm::cut::{before, split_word, trim};
 use run_calls::calls::call_of;
@@ -59,7 +59,8 @@ fn call_in(alloc: Global, state: &TcState, text: &[u8]) -> Result<script::Call, 
 
 // The word that a line's answer is to begin with, and what stands after that word.
 fn word_of(text: &[u8]) -> Result<(Option<Name<'_>>, &[u8]), ScriptFault>
-    ensures { IsWordOf text.now result }
+    ensures ok { IfOk result (λ r. word_and_rest text.now ≡ Ok (r.0, r.1.now)) }
+    ensures err { IfErr result (λ fault. word_and_rest text.now ≡ Err fault) }
 {
     match split_word(text) {
         ([b'@', word @ ..], rest) => Ok((Some(Name::parse(word)?), rest)),
@@ -85,7 +86,7 @@ impl<'a> Requests<'a> {
         word: Option<Name<'a>>,
         said: Result<script::Call, LineError>,
     ) -> Result<(), AllocError>
-        ensures { (says : Result said FaultValue) → Gives says said → OnOk result (AddsRequest word.entry says self.old self.new) }
+        ensures { (says : Result SaidCall FaultValue) → Gives says said → OnOk result (AddsRequest word.entry says self.old self.new) }
     {
         let fault = match said {
             Ok(call) => {

@@ -418,7 +418,7 @@ fn serve_alone<R: Files<File = File> + Clock + Threads + Wait + Sync, I: Read, W
     input: &mut I,
     out: &mut W,
 ) -> End
-    requires { options.entry.log ≡ None }
+    requires { options.log ≡ None }
     ensures { IsServed options.entry.manner.results options.entry.manner.workers options.entry.manner.tries
         (option_map (λ path. path.now) options.entry.log) loaded.state loaded.dcs.items loaded.first.items
         (I.remaining input.old) (I.remaining input.new) (stream (W.contents out.old) (W.contents out.new)) result }

@@ -36,9 +36,6 @@ abbrev pub word_and_rest : List ℕ → Result (Option (List ℕ) × List ℕ) S
 word_and_rest text =
     if has 0 64 (word_of text) then and_then (name_said (drop 1 (word_of text))) (λ word. Ok (Some word, rest_of text)) else Ok (None, text)
 
-abbrev pub IsWordOf : List ℕ → Result (Option (List ℕ) × List ℕ) ScriptFault → Type 0
-IsWordOf text result = result ≡ word_and_rest text
-
 -- these requests and their calls stand behind the others
 abbrev pub AddsAsked : List Asked → Requests → Requests → Type 0
 AddsAsked all old new =
