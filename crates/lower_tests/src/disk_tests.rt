@@ -43,8 +43,26 @@ fn one_more(
     payloads.len()
 }
 
-fn is_busy<F: Files<File = File>>(rt: &F, alloc: Global) -> bool {
-    matches!(DiskFile::open(rt, alloc, PATH), Err(OpenError::Busy))
+// Why the file with this name isn't opened, where it isn't.
+fn refusal<F: Files<File = File>>(rt: &F, alloc: Global, path: &str) -> Option<OpenError> {
+    DiskFile::open(rt, alloc, path).err()
+}
+
+// Somebody has it open.
+fn is_busy<F: Files<File = File>>(rt: &F, alloc: Global, path: &str) -> bool {
+    matches!(refusal(rt, alloc, path), Some(OpenError::Busy))
+}
+
+// The file with this name has these bytes.
+fn has_bytes<R: Files<File = File> + Abort>(rt: &R, alloc: Global, path: &str, wanted: &[u8]) {
+    let bytes = fs::read(&(rt, alloc), path).expect(rt, "not read");
+    is_same(rt, bytes.as_slice(), wanted);
+}
+
+fn remove<R: Files<File = File> + Abort>(rt: &R, paths: &[&str]) {
+    for path in paths {
+        fs::remove_file(rt, *path).expect(rt, "not removed");
+    }
 }
 
 // How many bytes and frames are in the file, and how many bytes with this frame more; meanwhile nobody else
@@ -58,13 +76,14 @@ fn goes_on<R: Files<File = File> + Abort>(
     let (mut file, bytes) = opened(rt, alloc).expect(rt, "not opened");
     let frames = one_more(rt, alloc, &mut file, &bytes, payload);
     let more = file.device().len();
-    is_same(rt, is_busy(rt, alloc), true);
+    is_same(rt, is_busy(rt, alloc, PATH), true);
     drop(file);
     is_same(rt, (bytes.len(), frames, more), wanted);
 }
 
 // What a crash leaves of a frame stands behind those that are whole, which have so many bytes.
-fn is_torn<R: Files<File = File> + Abort>(rt: &R, mut bytes: Vec<u8>, whole: usize) {
+fn is_torn<R: Files<File = File> + Abort>(rt: &R, alloc: Global, whole: usize) {
+    let mut bytes = fs::read(&(rt, alloc), PATH).expect(rt, "not read");
     is_same(rt, bytes.len(), whole);
     bytes.extend_from_slice(&[1, 0, 0]).expect(rt, "no bytes");
     fs::write(rt, PATH, bytes.as_slice()).expect(rt, "not written");
@@ -76,21 +95,12 @@ fn frames_in_a_file(rt: HostRuntime) {
     let _ = fs::remove_file(&rt, PATH);
     let _ = fs::remove_file(&rt, DROPPED);
     goes_on(&rt, rt.alloc(), b"first".as_slice(), (0, 0, 29));
-    let bytes = fs::read(&rt, PATH).expect(&rt, "not read");
-    is_torn(&rt, bytes, 29);
+    is_torn(&rt, rt.alloc(), 29);
     goes_on(&rt, rt.alloc(), b"second".as_slice(), (32, 1, 59));
     let bytes = fs::read(&rt, PATH).expect(&rt, "not read");
     is_same(&rt, bytes.len(), 59);
-    let dropped = fs::read(&rt, DROPPED).expect(&rt, "not read");
-    is_same(&rt, dropped.as_slice(), [1, 0, 0].as_slice());
-    fs::remove_file(&rt, PATH).expect(&rt, "not removed");
-    fs::remove_file(&rt, DROPPED).expect(&rt, "not removed");
-}
-
-#[test]
-fn no_file_there(rt: HostRuntime) {
-    let opened = DiskFile::open(&rt, rt.alloc(), "no/such/folder");
-    is_same(&rt, matches!(opened, Err(OpenError::Unwritten(_))), true);
+    has_bytes(&rt, rt.alloc(), DROPPED, &[1, 0, 0]);
+    remove(&rt, &[PATH, DROPPED]);
 }
 
 // Nothing is cut off where there is no place for it.
@@ -104,26 +114,26 @@ fn no_place_for_an_end(rt: HostRuntime) {
     let unkept = FrameFault::Device(DeviceError::Unkept);
     is_same(&rt, file.recover(alloc, &bytes).err(), Some(unkept));
     drop(file);
-    let bytes = fs::read(&rt, ALONE).expect(&rt, "not read");
-    is_same(&rt, bytes.as_slice(), [0, 0, 0].as_slice());
-    fs::remove_file(&rt, ALONE).expect(&rt, "not removed");
+    has_bytes(&rt, alloc, ALONE, &[0, 0, 0]);
+    remove(&rt, &[ALONE]);
 }
 
-// What isn't a file of bytes isn't opened.
+// What isn't there isn't opened, and neither is what isn't a file of bytes.
 #[test]
 fn no_file_of_bytes(rt: HostRuntime) {
-    let zeros = DiskFile::open(&rt, rt.alloc(), "/dev/zero");
-    is_same(
-        &rt,
-        matches!(zeros, Err(OpenError::Kind(FileKind::CharacterDevice))),
-        true,
+    let unwritten = matches!(
+        refusal(&rt, rt.alloc(), "no/such/folder"),
+        Some(OpenError::Unwritten(_))
     );
-    let folder = DiskFile::open(&rt, rt.alloc(), ".");
-    is_same(
-        &rt,
-        matches!(folder, Err(OpenError::Kind(FileKind::Directory))),
-        true,
+    let zeros = matches!(
+        refusal(&rt, rt.alloc(), "/dev/zero"),
+        Some(OpenError::Kind(FileKind::CharacterDevice))
     );
+    let folder = matches!(
+        refusal(&rt, rt.alloc(), "."),
+        Some(OpenError::Kind(FileKind::Directory))
+    );
+    is_same(&rt, (unwritten, zeros, folder), (true, true, true));
 }
 
 // The file of this name, which has one byte.
@@ -153,9 +163,18 @@ fn new_file<R: Files<File = File> + Abort>(
     }
 }
 
-fn has_bytes<R: Files<File = File> + Abort>(rt: &R, alloc: Global, path: &str, wanted: &[u8]) {
-    let bytes = fs::read(&(rt, alloc), path).expect(rt, "not read");
-    is_same(rt, bytes.as_slice(), wanted);
+// The new file takes the old one's place, and is handed back.
+fn in_place<R: Files<File = File> + Abort>(
+    rt: &R,
+    alloc: Global,
+    path: &str,
+    old: DiskFile,
+) -> DiskFile {
+    let new = new_file(rt, alloc, path, &old);
+    new.take_place(rt, alloc, path, &old)
+        .expect(rt, "not in its place");
+    drop(old);
+    new
 }
 
 // The next one takes the file's place, with its permissions, and nobody else opens it meanwhile.
@@ -170,17 +189,13 @@ fn a_file_takes_the_place(rt: HostRuntime) {
     let (beside, left) = Beside::open(&rt, alloc, PLACE).expect(&rt, "not beside");
     is_same(&rt, left.as_slice(), [7, 7, 7].as_slice());
     drop(beside);
-    let new = new_file(&rt, alloc, PLACE, &old);
-    new.take_place(&rt, alloc, PLACE, &old)
-        .expect(&rt, "not in its place");
-    drop(old);
-    let again = DiskFile::open(&rt, alloc, PLACE);
-    is_same(&rt, matches!(again, Err(OpenError::Busy)), true);
+    let new = in_place(&rt, alloc, PLACE, old);
+    is_same(&rt, is_busy(&rt, alloc, PLACE), true);
     drop(new);
     has_bytes(&rt, alloc, PLACE, &[2, 3]);
     let known = fs::metadata(&rt, PLACE).expect(&rt, "not known");
     is_same(&rt, known.permissions().mode() & 0o777, 0o640);
-    fs::remove_file(&rt, PLACE).expect(&rt, "not removed");
+    remove(&rt, &[PLACE]);
 }
 
 // Where the name is a link, the file that it leads to is replaced.
@@ -192,16 +207,11 @@ fn a_link_stays(rt: HostRuntime) {
     fs::write(&rt, TARGET, [1].as_slice()).expect(&rt, "not written");
     symlink(&rt, TARGET, LINK).expect(&rt, "no link");
     let old = old_file(&rt, alloc, LINK);
-    let new = new_file(&rt, alloc, LINK, &old);
-    new.take_place(&rt, alloc, LINK, &old)
-        .expect(&rt, "not in its place");
-    drop(old);
-    drop(new);
+    drop(in_place(&rt, alloc, LINK, old));
     let known = fs::symlink_metadata(&rt, LINK).expect(&rt, "not known");
     is_same(&rt, known.is_symlink(), true);
     has_bytes(&rt, alloc, TARGET, &[2, 3]);
-    fs::remove_file(&rt, LINK).expect(&rt, "not removed");
-    fs::remove_file(&rt, TARGET).expect(&rt, "not removed");
+    remove(&rt, &[LINK, TARGET]);
 }
 
 // A name that is another file's is not taken, and the new file gives up its own.
@@ -226,7 +236,13 @@ fn a_name_that_is_lost(rt: HostRuntime) {
     is_same(&rt, matches!(beside, Err(_)), true);
     drop(old);
     drop(new);
-    fs::remove_file(&rt, PLACE).expect(&rt, "not removed");
+    remove(&rt, &[PLACE]);
+}
+
+// What stands where the next one would is refused as another's.
+fn is_foreign<F: Files<File = File>>(rt: &F, alloc: Global, path: &str) -> bool {
+    let refused = Beside::open(rt, alloc, path).err();
+    matches!(refused, Some(BesideError::Foreign))
 }
 
 // What has another name too, or is a link, isn't opened, and what it has stays.
@@ -240,15 +256,11 @@ fn another_file_stands_beside(rt: HostRuntime) {
     let old = old_file(&rt, alloc, PLACE);
     fs::write(&rt, OTHER, page).expect(&rt, "not written");
     fs::hard_link(&rt, OTHER, BESIDE).expect(&rt, "no name");
-    let refused = Beside::open(&rt, alloc, PLACE);
-    is_same(&rt, matches!(refused, Err(BesideError::Foreign)), true);
+    is_same(&rt, is_foreign(&rt, alloc, PLACE), true);
     fs::remove_file(&rt, BESIDE).expect(&rt, "not removed");
     symlink(&rt, OTHER, BESIDE).expect(&rt, "no link");
-    let refused = Beside::open(&rt, alloc, PLACE);
-    is_same(&rt, matches!(refused, Err(BesideError::Foreign)), true);
+    is_same(&rt, is_foreign(&rt, alloc, PLACE), true);
     has_bytes(&rt, alloc, OTHER, page);
     drop(old);
-    for name in [PLACE, BESIDE, OTHER] {
-        fs::remove_file(&rt, name).expect(&rt, "not removed");
-    }
+    remove(&rt, &[PLACE, BESIDE, OTHER]);
 }

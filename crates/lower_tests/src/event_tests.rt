@@ -271,13 +271,20 @@ fn both(rt: &impl Abort, alloc: Global) -> Vec<u8> {
     both
 }
 
+// Nothing, bytes that are no whole event, and an event of no kind.
+const NO_EVENTS: [(&[u8], Result<usize, LogFault>); 3] = [
+    (&[], Ok(0)),
+    (&[0; 95], Err(LogFault::Length)),
+    (&[0; 96], Err(LogFault::Kind(0))),
+];
+
 // Another kind, a third argument, and nine arguments.
 #[test]
 fn what_no_event_prints(rt: HostRuntime) {
     let alloc = rt.alloc();
-    reads(&rt, alloc, &[], Ok(0));
-    reads(&rt, alloc, &[0; 95], Err(LogFault::Length));
-    reads(&rt, alloc, &[0; 96], Err(LogFault::Kind(0)));
+    for (bytes, wanted) in NO_EVENTS {
+        reads(&rt, alloc, bytes, wanted);
+    }
     for (place, byte) in [(0, 6), (48, 1), (1, 9)] {
         reads(&rt, alloc, &call_with(place, byte), Err(LogFault::Kind(0)));
     }

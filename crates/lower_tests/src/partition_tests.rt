@@ -43,31 +43,25 @@ fn is_divided(
     }
 }
 
-#[test]
-fn no_procedure_joins_any(rt: HostRuntime) {
-    is_divided(&rt, rt.alloc(), 3, &[&[], &[1], &[2, 2]], &[0, 1, 2]);
-}
-
-// What two procedures join through a third component is of one partition, in whatever order they come.
-#[test]
-fn procedures_join(rt: HostRuntime) {
-    let alloc = rt.alloc();
-    is_divided(&rt, alloc, 6, &[&[3, 1], &[5, 3]], &[0, 1, 2, 1, 4, 1]);
-    is_divided(&rt, alloc, 6, &[&[5, 3], &[3, 1]], &[0, 1, 2, 1, 4, 1]);
-    is_divided(
-        &rt,
-        alloc,
+// How many data components there are, of which the procedures have slots, and each one's partition. What two procedures
+// join through a third component is of one partition, in whatever order they come.
+const JOINED: [(usize, &[&[u16]], &[usize]); 5] = [
+    (3, &[&[], &[1], &[2, 2]], &[0, 1, 2]),
+    (6, &[&[3, 1], &[5, 3]], &[0, 1, 2, 1, 4, 1]),
+    (6, &[&[5, 3], &[3, 1]], &[0, 1, 2, 1, 4, 1]),
+    (
         6,
         &[&[0, 1], &[4, 5], &[2, 3], &[5, 2]],
         &[0, 0, 2, 2, 2, 2],
-    );
-    is_divided(
-        &rt,
-        alloc,
-        5,
-        &[&[1, 2], &[3, 4], &[4, 0, 2]],
-        &[0, 0, 0, 0, 0],
-    );
+    ),
+    (5, &[&[1, 2], &[3, 4], &[4, 0, 2]], &[0, 0, 0, 0, 0]),
+];
+
+#[test]
+fn procedures_join(rt: HostRuntime) {
+    for (dcs, procedures, numbers) in JOINED {
+        is_divided(&rt, rt.alloc(), dcs, procedures, numbers);
+    }
 }
 
 // A procedure is of its first slot's partition, and of the first one where it has no slot.

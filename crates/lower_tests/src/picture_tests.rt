@@ -2,8 +2,8 @@ use crate::checks::is_same;
 use access_slots::op::{Op, Said};
 use access_slots::slot::{Record, Value};
 use log_picture::drawing::drawing;
-use log_picture::{Ending, Life, Picture, pictured};
-use std::alloc::{AllocError, Global};
+use log_picture::{Ending, Life, pictured};
+use std::alloc::Global;
 use std::process::Abort;
 use tc_log::event::{Args, Event, Outcome};
 use tc_log::log::Log;
@@ -18,14 +18,18 @@ fn key(key: u64) -> Record {
     }
 }
 
+fn args(rt: &impl Abort, alloc: Global, numbers: &[u64]) -> Args {
+    Args::copy_of(alloc, numbers).expect(rt, "no memory")
+}
+
 // Transaction 1 writes 5 and commits; 2 reads 5 and writes 6 meanwhile, undoes that, and aborts with 7; 3 stays open.
-fn three(alloc: Global) -> Result<Log, AllocError> {
+fn three(rt: &impl Abort, alloc: Global) -> Log {
     let mut log = Log::new(alloc);
-    log.reserve(11)?;
+    log.reserve(11).expect(rt, "no memory");
     log.push(Event::Admit {
         txn: 1,
         proc: 0,
-        args: Args::copy_of(alloc, &[5])?,
+        args: args(rt, alloc, &[5]),
     });
     log.push(Event::Ask {
         txn: 1,
@@ -35,7 +39,7 @@ fn three(alloc: Global) -> Result<Log, AllocError> {
     log.push(Event::Admit {
         txn: 2,
         proc: 1,
-        args: Args::copy_of(alloc, &[])?,
+        args: args(rt, alloc, &[]),
     });
     log.push(Event::Ask {
         txn: 2,
@@ -64,7 +68,7 @@ fn three(alloc: Global) -> Result<Log, AllocError> {
     log.push(Event::Admit {
         txn: 3,
         proc: 0,
-        args: Args::copy_of(alloc, &[6])?,
+        args: args(rt, alloc, &[6]),
     });
     log.push(Event::Answer {
         txn: 2,
@@ -75,42 +79,36 @@ fn three(alloc: Global) -> Result<Log, AllocError> {
         txn: 2,
         outcome: Outcome::Aborted(7),
     });
-    Ok(log)
+    log
 }
 
-fn ending(place: usize, outcome: Outcome) -> Option<Ending> {
-    Some(Ending { place, outcome })
-}
-
-fn life_is(rt: &impl Abort, picture: &Picture, index: usize, lane: usize, want: Life) {
-    let track = picture.tracks.get(index).expect(rt, "no such transaction");
-    is_same(rt, (index, track.lane), (index, lane));
-    is_same(rt, track.life, want);
-}
-
-#[test]
-fn three_transactions(rt: HostRuntime) {
-    let alloc = rt.alloc();
-    let log = three(alloc).expect(&rt, "no memory");
-    let picture = pictured(alloc, &log.events(), 0).expect(&rt, "no memory");
-    let first = Life {
-        txn: 1,
-        proc: 0,
-        begin: 0,
-        end: ending(5, Outcome::Committed),
-    };
-    let second = Life {
-        txn: 2,
-        proc: 1,
-        begin: 2,
-        end: ending(10, Outcome::Aborted(7)),
-    };
-    life_is(&rt, &picture, 0, 0, first);
-    life_is(&rt, &picture, 1, 1, second);
-    life_is(
-        &rt,
-        &picture,
-        2,
+// The lane and the life of each transaction.
+const LIVES: [(usize, Life); 3] = [
+    (
+        0,
+        Life {
+            txn: 1,
+            proc: 0,
+            begin: 0,
+            end: Some(Ending {
+                place: 5,
+                outcome: Outcome::Committed,
+            }),
+        },
+    ),
+    (
+        1,
+        Life {
+            txn: 2,
+            proc: 1,
+            begin: 2,
+            end: Some(Ending {
+                place: 10,
+                outcome: Outcome::Aborted(7),
+            }),
+        },
+    ),
+    (
         0,
         Life {
             txn: 3,
@@ -118,7 +116,17 @@ fn three_transactions(rt: HostRuntime) {
             begin: 8,
             end: None,
         },
-    );
+    ),
+];
+
+#[test]
+fn three_transactions(rt: HostRuntime) {
+    let alloc = rt.alloc();
+    let log = three(&rt, alloc);
+    let picture = pictured(alloc, &log.events(), 0).expect(&rt, "no memory");
+    for (track, wanted) in picture.tracks.iter().zip(LIVES) {
+        is_same(&rt, (track.lane, track.life), wanted);
+    }
     is_same(&rt, (picture.tracks.len(), picture.lanes), (3, 2));
     drop((log, picture));
 }
@@ -127,7 +135,7 @@ fn three_transactions(rt: HostRuntime) {
 #[test]
 fn a_part(rt: HostRuntime) {
     let alloc = rt.alloc();
-    let log = three(alloc).expect(&rt, "no memory");
+    let log = three(&rt, alloc);
     let picture = pictured(alloc, &log.events(), 7).expect(&rt, "no memory");
     let track = picture.tracks.get(0).expect(&rt, "no transaction");
     is_same(&rt, track.life.txn, 2);
@@ -147,7 +155,7 @@ fn a_part(rt: HostRuntime) {
 #[test]
 fn its_drawing(rt: HostRuntime) {
     let alloc = rt.alloc();
-    let log = three(alloc).expect(&rt, "no memory");
+    let log = three(&rt, alloc);
     let picture = pictured(alloc, &log.events(), 0).expect(&rt, "no memory");
     let svg = drawing(alloc, &log.events(), 0, 11, 11, &picture).expect(&rt, "no memory");
     let text = svg.as_str();
