@@ -1,10 +1,9 @@
 // Runs whose log is kept, by one, two and eight workers over one journal in memory, with a gate that looks
 // at what is kept when it is told of an answer, and journals that fail, or that take their time.
 
+use crate::harness::{Harness, Manner};
 use crate::test_pool::{answers_of, are_committed, is_same, locked_dc, state_of};
 use crate::test_state::{moves, puts, state};
-use access_slots::op::{News, Reply, Wire};
-use dc_links::{Link, LockedDcs};
 use journals::{Journal, MemoryJournal, NotKept};
 use std::alloc::{AllocError, Global};
 use std::process::Abort;
@@ -14,7 +13,7 @@ use std::thread;
 use std::thread::Threads;
 use tc_core::state::{Call, TcState};
 use tc_log::log::Log;
-use worker_pool::{Acknowledgement, Answer, Gate, OpenGate, Report, RunFault, RunSpec, run};
+use worker_pool::{Acknowledgement, Answer, Gate, OpenGate, Report, RunFault, RunSpec, Stage, run};
 
 // What journal, link and gate of one run tell each other.
 #[derive(Drop)]
@@ -22,9 +21,13 @@ struct Board {
     // How many events are kept, and how often some were.
     kept: AtomicU64,
     keeps: AtomicU64,
-    // How many wires were carried, and how many of them the first keep waits for.
-    carried: AtomicU64,
+    // How many wires came back, and how many of them the first keep waits for.
+    back: AtomicU64,
     awaited: u64,
+    // Whether nobody who tells it is kept for long.
+    is_prompt: bool,
+    // How many calls were told as answered in the order of the list.
+    in_order: AtomicU64,
     // Whether the first keep waited for too long.
     late: AtomicU64,
     // How many events were kept when each call was told as answered, and one more.
@@ -45,17 +48,19 @@ impl Board {
         Ok(Board {
             kept: AtomicU64::new(0),
             keeps: AtomicU64::new(0),
-            carried: AtomicU64::new(0),
+            back: AtomicU64::new(0),
             awaited,
+            is_prompt: false,
+            in_order: AtomicU64::new(0),
             late: AtomicU64::new(0),
             told,
         })
     }
 
-    // Whether the wires were carried in time.
-    fn are_carried(&self) -> bool {
+    // Whether the wires came back in time.
+    fn are_back(&self) -> bool {
         for _ in 0..100_000_000u64 {
-            if self.carried.load(Ordering::SeqCst) >= self.awaited {
+            if self.back.load(Ordering::SeqCst) >= self.awaited {
                 return true;
             }
             thread::yield_now();
@@ -63,9 +68,9 @@ impl Board {
         false
     }
 
-    // Waits until the wires were carried, and then lets those who carried them go on.
+    // Waits until the wires came back, and then lets those who carried them go on.
     fn wait(&self) {
-        if !self.are_carried() {
+        if !self.are_back() {
             self.late.store(1, Ordering::SeqCst);
         }
         for _ in 0..10_000u64 {
@@ -103,57 +108,30 @@ impl Board {
 impl Gate for Board {
     fn begun(&self, _call: usize) {}
 
+    fn reaches(&self, _call: usize, stage: Stage) {
+        if stage == Stage::Back {
+            self.back.fetch_add(1, Ordering::SeqCst);
+        }
+    }
+
     fn answered<J: RunSpec>(&self, acknowledgement: &Acknowledgement<J>) {
-        if let Some(told) = self.told.get(acknowledgement.call()) {
+        let call = acknowledgement.call();
+        if let Some(told) = self.told.get(call) {
             let kept = self.kept.load(Ordering::SeqCst);
             told.store(kept.saturating_add(1), Ordering::SeqCst);
         }
-    }
-}
-
-// Tells the board of answers, and never keeps a worker for long. It counts calls that are told in the order of the list.
-#[derive(Drop)]
-struct PromptGate<'a> {
-    board: &'a Board,
-    in_order: AtomicU64,
-}
-
-impl Gate for PromptGate<'_> {
-    fn begun(&self, _call: usize) {}
-
-    fn answered<J: RunSpec>(&self, acknowledgement: &Acknowledgement<J>) {
-        Gate::answered(self.board, acknowledgement);
         let next = self.in_order.load(Ordering::SeqCst);
-        if acknowledgement.call() as u64 == next {
+        if call as u64 == next {
             self.in_order.store(next.wrapping_add(1), Ordering::SeqCst);
         }
     }
 
     fn only_notes(&self) -> bool {
-        true
+        self.is_prompt
     }
 
     fn is_prompt(&self) -> bool {
-        true
-    }
-}
-
-// Carries by another link, and counts what it carried.
-#[derive(Drop)]
-struct Counted<'a> {
-    dcs: LockedDcs,
-    board: &'a Board,
-}
-
-impl Link for Counted<'_> {
-    fn carry<R: Wait>(&self, rt: &R, worker: usize, wire: &Wire) -> Option<Reply> {
-        let reply = self.dcs.carry(rt, worker, wire);
-        self.board.carried.fetch_add(1, Ordering::SeqCst);
-        reply
-    }
-
-    fn news<R: Wait>(&self, _rt: &R, _worker: usize, _dc: u16) -> Option<News> {
-        None
+        self.is_prompt
     }
 }
 
@@ -223,10 +201,7 @@ fn ran_over<R: Threads + Wait + Sync + Abort>(
     (workers, failure): (usize, Failure),
     board: &Board,
 ) -> (usize, Result<Report, RunFault>) {
-    let link = Counted {
-        dcs: locked_dc(alloc, 8).expect(rt, "no components"),
-        board,
-    };
+    let link = Harness::new(rt, alloc, Manner::Faithful, 8);
     let state = state(rt, alloc);
     let journal = Watched {
         memory: MemoryJournal::new(alloc),
@@ -320,11 +295,8 @@ fn one_keep_for_several_answers(rt: HostRuntime) {
 fn one_keep_for_the_calls_of_a_taking(rt: HostRuntime) {
     let alloc = rt.alloc();
     let calls = new_puts(&rt, alloc);
-    let board = new_board(&rt, alloc, 8, 0);
-    let gate = PromptGate {
-        board: &board,
-        in_order: AtomicU64::new(0),
-    };
+    let mut board = new_board(&rt, alloc, 8, 0);
+    board.is_prompt = true;
     let link = locked_dc(alloc, 8).expect(&rt, "no components");
     let journal = Watched {
         memory: MemoryJournal::new(alloc),
@@ -340,7 +312,7 @@ fn one_keep_for_the_calls_of_a_taking(rt: HostRuntime) {
         1,
         3,
         &link,
-        &gate,
+        &board,
         journal,
     );
     drop(calls);
@@ -349,8 +321,7 @@ fn one_keep_for_the_calls_of_a_taking(rt: HostRuntime) {
     drop(journal);
     is_same(&rt, ending(ran), ("a report", 32));
     is_same(&rt, board.answered(), 8);
-    is_same(&rt, gate.in_order.load(Ordering::SeqCst), 8);
-    drop(gate);
+    is_same(&rt, board.in_order.load(Ordering::SeqCst), 8);
     is_same(&rt, board.keeps.load(Ordering::SeqCst), 2);
     drop(board);
 }

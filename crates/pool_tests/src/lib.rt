@@ -15,6 +15,7 @@
 //! | `stage_tests` | what a gate is told of a call on its way |
 //! | `restart_tests` | data components that restart while calls run |
 //! | `memory_tests` | runs that are refused memory |
+//! | `harness` | the link and the gate of most of them |
 //!
 //! `rt test pool_tests` proves and runs these; `tools/memory_requests.py` runs them with memory refused.
 #![tactic(auto)]
@@ -25,6 +26,8 @@ mod at_once_tests;
 mod cut_tests;
 #[cfg(test)]
 mod delays;
+#[cfg(test)]
+mod harness;
 #[cfg(test)]
 mod journal_tests;
 #[cfg(test)]

@@ -1,24 +1,24 @@
 // Runs by one, two and eight workers over components behind locks, with a gate that holds a call,
 // and links that wait, lose and change what they carry.
 
+use crate::harness::{Harness, Manner};
 use crate::test_pool::{
-    Hold, answers, answers_behind_put, are_committed, begun, behind_put, first_answers, holds,
-    is_same, locked_dc, state_of,
+    answers, answers_behind_put, are_committed, begun, behind_put, first_answers, holds, is_same,
+    locked_dc, state_of,
 };
 use crate::test_state::{NO_PROCEDURE, add_call, calls_of, moves, puts, state};
-use access_slots::op::{News, Reply, Wire};
+use access_slots::op::Wire;
 use dc_links::{Link, LockedDcs};
 use journals::NoJournal;
 use lock_table::table::Busy;
 use samples::{BAD, GET, MOVE, PUT, record};
-use std::alloc::{AllocError, Global};
+use std::alloc::Global;
 use std::process::Abort;
-use std::sync::atomic::{AtomicU64, Ordering};
-use std::sync::{Mutex, Wait};
+use std::sync::Wait;
 use std::thread::Threads;
 use tc_core::state::{Call, Refusal, TcState};
 use tc_log::event::Entry;
-use worker_pool::{Acknowledgement, Answer, Gate, OpenGate, RunFault, RunSpec, run};
+use worker_pool::{Answer, Gate, OpenGate, RunFault, run};
 
 fn one_moved<R: Threads + Wait + Sync + Abort>(rt: &R, alloc: Global, workers: usize) {
     let mut link = locked_dc(alloc, 4).expect(rt, "no link");
@@ -83,102 +83,14 @@ fn refused_calls(rt: HostRuntime) {
     drop(link);
 }
 
-// Counts the calls that it is told of as begun and as answered.
-#[derive(Drop)]
-pub(crate) struct Counts {
-    begun: AtomicU64,
-    answered: AtomicU64,
-}
-
-impl Counts {
-    pub(crate) fn new() -> Counts {
-        Counts {
-            begun: AtomicU64::new(0),
-            answered: AtomicU64::new(0),
-        }
-    }
-
-    // How many were begun, and how many answered.
-    pub(crate) fn told(&self) -> (u64, u64) {
-        (
-            self.begun.load(Ordering::SeqCst),
-            self.answered.load(Ordering::SeqCst),
-        )
-    }
-}
-
-impl Gate for Counts {
-    fn begun(&self, _call: usize) {
-        self.begun.fetch_add(1, Ordering::SeqCst);
-    }
-
-    fn answered<J: RunSpec>(&self, _acknowledgement: &Acknowledgement<J>) {
-        self.answered.fetch_add(1, Ordering::SeqCst);
-    }
-}
-
-// Notes, of each call, the place of the end that it is told of, and one more.
-#[derive(Drop)]
-struct Told {
-    ends: Vec<AtomicU64>,
-}
-
-fn push_none(ends: &mut Vec<AtomicU64>, calls: usize) -> Result<(), AllocError> {
-    for _ in 0..calls {
-        ends.push(AtomicU64::new(0))?;
-    }
-    Ok(())
-}
-
-impl Told {
-    fn new(alloc: Global, calls: usize) -> Result<Told, AllocError> {
-        let mut ends = Vec::new(alloc);
-        push_none(&mut ends, calls)?;
-        Ok(Told { ends })
-    }
-
-    // Whether the call was told of with this answer, and is committed.
-    fn was_told(&self, call: usize, answer: &Answer) -> bool {
-        match (self.ends.get(call), answer) {
-            (Some(end), Answer::Committed(place)) => {
-                end.load(Ordering::SeqCst) == (*place as u64).saturating_add(1)
-            }
-            _ => false,
-        }
-    }
-
-    // The same of all calls.
-    fn were_told(&self, answers: &[Answer]) -> bool {
-        (0..answers.len()).all(|call| match answers.get(call) {
-            Some(answer) => self.was_told(call, answer),
-            None => false,
-        })
-    }
-}
-
-impl Gate for Told {
-    fn begun(&self, _call: usize) {}
-
-    fn answered<J: RunSpec>(&self, acknowledgement: &Acknowledgement<J>) {
-        if let (Some(end), Answer::Committed(place)) = (
-            self.ends.get(acknowledgement.call()),
-            acknowledgement.answer(),
-        ) {
-            end.store((place as u64).saturating_add(1), Ordering::SeqCst);
-        }
-    }
-}
-
 fn told_as_reported<R: Threads + Wait + Sync + Abort>(rt: &R, alloc: Global, workers: usize) {
-    let told = Told::new(alloc, 8).expect(rt, "no room");
-    let link = locked_dc(alloc, 8).expect(rt, "no link");
+    let told = Harness::new(rt, alloc, Manner::Faithful, 8);
     let calls = puts(alloc, 8, 1).expect(rt, "no calls");
-    let answers = first_answers(rt, alloc, calls, workers, &link, &told);
+    let answers = first_answers(rt, alloc, calls, workers, &told.dcs, &told);
     are_committed(rt, answers.as_slice(), 8);
     is_same(rt, told.were_told(answers.as_slice()), true);
     drop(answers);
     drop(told);
-    drop(link);
 }
 
 // What is told of a call is what is reported of it.
@@ -186,27 +98,6 @@ fn told_as_reported<R: Threads + Wait + Sync + Abort>(rt: &R, alloc: Global, wor
 fn the_answer_told_is_the_one_reported(rt: HostRuntime) {
     told_as_reported(&rt, rt.alloc(), 1);
     told_as_reported(&rt, rt.alloc(), 8);
-}
-
-// Holds call 0 in `begun` until call 1 is answered, and counts what it is told.
-#[derive(Drop)]
-struct HoldsBegun {
-    hold: Hold,
-    counts: Counts,
-}
-
-impl Gate for HoldsBegun {
-    fn begun(&self, call: usize) {
-        self.counts.begun(call);
-        if call == 0 {
-            self.hold.wait();
-        }
-    }
-
-    fn answered<J: RunSpec>(&self, acknowledgement: &Acknowledgement<J>) {
-        self.counts.answered(acknowledgement);
-        self.hold.answered(acknowledgement.call());
-    }
 }
 
 // `put 5 1` and `put 6 2` are committed by two workers.
@@ -224,80 +115,21 @@ fn both_commit<R: Threads + Wait + Sync + Abort, L: Link + Sync, G: Gate + Sync>
 // Two workers are at work at once, and no lock is held while a gate is told.
 #[test]
 fn two_calls_at_once_by_a_gate(rt: HostRuntime) {
-    let gate = HoldsBegun {
-        hold: Hold::new(),
-        counts: Counts::new(),
-    };
-    let link = locked_dc(rt.alloc(), 4).expect(&rt, "no link");
-    both_commit(&rt, rt.alloc(), &link, &gate);
-    drop(link);
+    let mut gate = Harness::new(&rt, rt.alloc(), Manner::Faithful, 4);
+    gate.holds_begun = true;
+    both_commit(&rt, rt.alloc(), &gate.dcs, &gate);
     is_same(&rt, gate.hold.is_too_late(), false);
-    is_same(&rt, gate.counts.told(), (2, 2));
-}
-
-// Holds the first carry for record 0/0/5 until call 1 is answered.
-#[derive(Drop)]
-struct HoldsCarry {
-    dcs: LockedDcs,
-    hold: Hold,
-}
-
-impl Link for HoldsCarry {
-    fn carry<R: Wait>(&self, rt: &R, worker: usize, wire: &Wire) -> Option<Reply> {
-        if *wire.op.record() == record(5) {
-            self.hold.wait();
-        }
-        self.dcs.carry(rt, worker, wire)
-    }
-
-    fn news<R: Wait>(&self, _rt: &R, _worker: usize, _dc: u16) -> Option<News> {
-        None
-    }
-}
-
-impl Gate for HoldsCarry {
-    fn begun(&self, _call: usize) {}
-
-    fn answered<J: RunSpec>(&self, acknowledgement: &Acknowledgement<J>) {
-        self.hold.answered(acknowledgement.call());
-    }
+    is_same(&rt, gate.told(), (2, 2));
+    drop(gate);
 }
 
 // No lock is held while a wire is carried.
 #[test]
 fn two_calls_at_once_by_a_link(rt: HostRuntime) {
-    let link = HoldsCarry {
-        dcs: locked_dc(rt.alloc(), 4).expect(&rt, "no components"),
-        hold: Hold::new(),
-    };
+    let link = Harness::new(&rt, rt.alloc(), Manner::FirstHeld, 4);
     both_commit(&rt, rt.alloc(), &link, &link);
     is_same(&rt, link.hold.is_too_late(), false);
     drop(link);
-}
-
-// Loses every wire, and counts them.
-#[derive(Drop)]
-pub(crate) struct Loses {
-    carried: AtomicU64,
-}
-
-impl Loses {
-    pub(crate) fn new() -> Loses {
-        Loses {
-            carried: AtomicU64::new(0),
-        }
-    }
-}
-
-impl Link for Loses {
-    fn carry<R: Wait>(&self, _rt: &R, _worker: usize, _wire: &Wire) -> Option<Reply> {
-        self.carried.fetch_add(1, Ordering::SeqCst);
-        None
-    }
-
-    fn news<R: Wait>(&self, _rt: &R, _worker: usize, _dc: u16) -> Option<News> {
-        None
-    }
 }
 
 // `put 5 1` falls in doubt, and is in the way of `put 5 2`.
@@ -312,50 +144,12 @@ fn are_lost(rt: &impl Abort, answers: &[Answer]) {
 
 #[test]
 fn in_doubt_after_three_carries_and_blocked(rt: HostRuntime) {
-    let link = Loses::new();
-    let gate = Counts::new();
+    let link = Harness::new(&rt, rt.alloc(), Manner::Lost, 4);
     let calls = calls_of(&rt, rt.alloc(), &[(PUT, &[5, 1]), (PUT, &[5, 2])]);
-    let answers = first_answers(&rt, rt.alloc(), calls, 1, &link, &gate);
+    let answers = first_answers(&rt, rt.alloc(), calls, 1, &link, &link);
     are_lost(&rt, answers.as_slice());
-    is_same(&rt, link.carried.load(Ordering::SeqCst), 3);
-    is_same(&rt, gate.told(), (1, 2));
-}
-
-// Records every wire. It loses every third one, and changes the reply to every third one.
-#[derive(Drop)]
-struct Records {
-    dcs: LockedDcs,
-    wires: Mutex<Vec<Wire>>,
-}
-
-impl Records {
-    // Records the wire, and says how many there are; 0 where memory runs out.
-    fn record<R: Wait>(&self, rt: &R, wire: &Wire) -> usize {
-        let mut wires = self.wires.lock(rt);
-        match wires.push(*wire) {
-            Ok(()) => wires.len(),
-            Err(_) => 0,
-        }
-    }
-}
-
-impl Link for Records {
-    fn carry<R: Wait>(&self, rt: &R, worker: usize, wire: &Wire) -> Option<Reply> {
-        let count = self.record(rt, wire);
-        let reply = self.dcs.carry(rt, worker, wire)?;
-        match count % 3 {
-            0 => Some(reply),
-            1 => Some(Reply {
-                number: reply.number.wrapping_add(1),
-                ..reply
-            }),
-            _ => None,
-        }
-    }
-
-    fn news<R: Wait>(&self, _rt: &R, _worker: usize, _dc: u16) -> Option<News> {
-        None
-    }
+    is_same(&rt, (link.wires_seen(), link.told()), ((0, 3), (1, 2)));
+    drop(link);
 }
 
 // Whether the event asks or undoes under the wire's number, with its operation.
@@ -408,7 +202,7 @@ fn are_logged(rt: &impl Abort, state: &TcState, wires: &[Wire]) {
 fn moved_and_aborted<R: Threads + Wait + Sync + Abort>(
     rt: &R,
     alloc: Global,
-    link: &Records,
+    link: &Harness,
 ) -> TcState {
     let calls = moves_and_aborts(rt, alloc);
     let state = state(rt, alloc);
@@ -427,7 +221,7 @@ fn moved_and_aborted<R: Threads + Wait + Sync + Abort>(
     state_of(begun(rt, ran))
 }
 
-fn are_recorded<R: Wait + Abort>(rt: &R, link: &Records, state: &TcState) {
+fn are_recorded<R: Wait + Abort>(rt: &R, link: &Harness, state: &TcState) {
     let wires = link.wires.lock(rt);
     are_logged(rt, state, wires.as_slice());
 }
@@ -435,10 +229,7 @@ fn are_recorded<R: Wait + Abort>(rt: &R, link: &Records, state: &TcState) {
 // What is sent is what the log says, and at most as often as there are tries.
 #[test]
 fn wires_are_the_logs(rt: HostRuntime) {
-    let link = Records {
-        dcs: locked_dc(rt.alloc(), 4).expect(&rt, "no components"),
-        wires: Mutex::new(Vec::new(rt.alloc())),
-    };
+    let link = Harness::new(&rt, rt.alloc(), Manner::Recorded, 4);
     let state = moved_and_aborted(&rt, rt.alloc(), &link);
     are_recorded(&rt, &link, &state);
     drop(state);

@@ -1,6 +1,7 @@
 // Many calls of a worker on their way, over a link that leaves wires there.
 
 use crate::delays::{Delays, Weather};
+use crate::harness::{Harness, Manner};
 use crate::test_pool::{
     answers_behind_put, answers_of, are_committed, begun, first_answers, holds, is_same, state_of,
     value_at,
@@ -13,7 +14,7 @@ use std::process::Abort;
 use std::sync::Wait;
 use std::thread::Threads;
 use tc_log::log::Log;
-use worker_pool::{Acknowledgement, Answer, Gate, OpenGate, Report, RunFault, RunSpec, run};
+use worker_pool::{Answer, OpenGate, Report, RunFault, run};
 
 // A link with so many wires of a worker on their way at most, and room for so many rows.
 fn delays(rt: &impl Abort, alloc: Global, weather: Weather, window: usize, rows: usize) -> Delays {
@@ -57,28 +58,17 @@ fn fewer_calls_than_the_window(rt: HostRuntime) {
     puts_on_their_way(&rt, rt.alloc(), (1, 4096), 130, 130);
 }
 
-// A gate that may take long.
-#[derive(Drop)]
-struct Slow;
-
-impl Gate for Slow {
-    fn begun(&self, _call: usize) {}
-
-    fn answered<J: RunSpec>(&self, _acknowledgement: &Acknowledgement<J>) {}
-
-    fn only_notes(&self) -> bool {
-        true
-    }
-}
-
 // No call waits for another's gate.
 #[test]
 fn one_call_with_a_gate_that_is_not_prompt(rt: HostRuntime) {
     let link = delays(&rt, rt.alloc(), Weather::Calm, 64, 20);
     let puts = puts(rt.alloc(), 20, 1).expect(&rt, "no calls");
-    let answers = first_answers(&rt, rt.alloc(), puts, 1, &link, &Slow);
+    let mut slow = Harness::new(&rt, rt.alloc(), Manner::Faithful, 1);
+    slow.only_notes = true;
+    let answers = first_answers(&rt, rt.alloc(), puts, 1, &link, &slow);
     are_committed(&rt, answers.as_slice(), 20);
     drop(answers);
+    drop(slow);
     is_same(&rt, link.most(&rt), 1);
     drop(link);
 }
