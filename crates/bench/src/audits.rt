@@ -61,16 +61,15 @@ fn take_line(alloc: Global, dcs: &mut [Dc], line: &str) -> Option<()> {
 }
 
 // The line of the audit of what stands behind a script.
-fn audited(alloc: Global, procs: &Procs, dcs: Vec<Dc>, text: &str) -> Option<String> {
-    let mut dcs = dcs;
+fn audited(alloc: Global, procs: &Procs, dcs: &mut [Dc], text: &str) -> Option<String> {
     let mut lines = text.split('\n');
     let log = events(alloc, lines.next()?)?;
     for line in lines {
         if !line.is_empty() {
-            take_line(alloc, dcs.as_mut_slice(), line)?;
+            take_line(alloc, dcs, line)?;
         }
     }
-    audit_line(alloc, procs, &log, dcs.as_slice())
+    audit_line(alloc, procs, &log, dcs)
 }
 
 /// The line of an audit of a log and data components. The text has a script of `world` with the
@@ -82,8 +81,9 @@ pub fn repeat(alloc: Global, text: &str) -> Option<String> {
     let Ok(Loading::Ready(loaded)) = load(alloc, Command::World, script) else {
         return None;
     };
-    let Loaded { state, dcs, .. } = loaded;
-    let line = audited(alloc, state.procs(), dcs, given);
+    let Loaded { state, mut dcs, .. } = loaded;
+    let line = audited(alloc, state.procs(), dcs.as_mut_slice(), given);
     drop(state);
+    drop(dcs);
     line
 }

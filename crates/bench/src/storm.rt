@@ -24,57 +24,30 @@ struct Told {
     before: Option<News>,
 }
 
+/// What the link does.
+#[derive(Clone, Copy)]
+pub enum Mood {
+    /// It loses nothing.
+    Calm,
+    /// It loses nothing, and the data component keeps a checkpoint at every fifth wire and restarts at every seventh.
+    Regular,
+    /// It loses, repeats, delays, forges and answers late.
+    Storm,
+}
+
 /// The link, and the data component behind it.
 #[derive(Drop)]
 pub struct Storm {
+    /// What it does, which is set where no worker is at work.
+    pub mood: Mood,
     dc: Mutex<Dc>,
     // By an odd seed: then workers have several calls on their way at a time.
     is_prompt: bool,
     seed: AtomicU64,
     late: Mutex<Option<Reply>>,
     told: Mutex<Told>,
-}
-
-/// The same data component over a link that loses nothing; it keeps no checkpoint then.
-#[derive(Drop)]
-pub struct Calm<'a> {
-    pub storm: &'a Storm,
-}
-
-impl Link for Calm<'_> {
-    fn carry<R: Wait>(&self, rt: &R, _worker: usize, wire: &Wire) -> Option<Reply> {
-        self.storm.perform(rt, wire)
-    }
-
-    fn news<R: Wait>(&self, _rt: &R, _worker: usize, _dc: u16) -> Option<News> {
-        None
-    }
-}
-
-/// The same data component over a link that loses nothing, where it keeps a checkpoint at every fifth
-/// wire and restarts at every seventh.
-#[derive(Drop)]
-pub struct Regular<'a> {
-    pub storm: &'a Storm,
-    pub carried: AtomicU64,
-}
-
-impl Link for Regular<'_> {
-    fn carry<R: Wait>(&self, rt: &R, _worker: usize, wire: &Wire) -> Option<Reply> {
-        let carried = self.carried.fetch_add(1, Ordering::Relaxed);
-        if carried % 7 == 6 {
-            self.storm.restart(rt);
-        }
-        let reply = self.storm.perform(rt, wire);
-        if carried % 5 == 4 {
-            self.storm.checkpoint(rt);
-        }
-        reply
-    }
-
-    fn news<R: Wait>(&self, rt: &R, _worker: usize, _dc: u16) -> Option<News> {
-        self.storm.told.lock(rt).last
-    }
+    // How many wires were carried in a regular mood.
+    carried: AtomicU64,
 }
 
 // The output function of splitmix64 (Steele, Lea, Flood, 2014).
@@ -85,14 +58,16 @@ const fn mixed(seed: u64) -> u64 {
 }
 
 impl Storm {
-    /// A storm of this seed.
+    /// A storm of this seed, which is calm at first.
     pub fn new(dc: Dc, seed: u64) -> Storm {
         Storm {
+            mood: Mood::Calm,
             dc: Mutex::new(dc),
             is_prompt: !seed.is_multiple_of(2),
             seed: AtomicU64::new(seed),
             late: Mutex::new(None),
             told: Mutex::new(Told::default()),
+            carried: AtomicU64::new(0),
         }
     }
 
@@ -142,6 +117,50 @@ impl Storm {
         }
     }
 
+    fn carry_regularly<R: Wait>(&self, rt: &R, wire: &Wire) -> Option<Reply> {
+        let carried = self.carried.fetch_add(1, Ordering::Relaxed);
+        if carried % 7 == 6 {
+            self.restart(rt);
+        }
+        let reply = self.perform(rt, wire);
+        if carried % 5 == 4 {
+            self.checkpoint(rt);
+        }
+        reply
+    }
+
+    fn carry_in_storm<R: Wait>(&self, rt: &R, wire: &Wire) -> Option<Reply> {
+        let drawn = self.draw();
+        self.befall(rt, drawn >> 32, wire.redo);
+        match drawn % 16 {
+            0 | 1 => None,
+            2 | 3 => {
+                let _lost = self.perform(rt, wire);
+                None
+            }
+            4 | 5 => {
+                let _first = self.perform(rt, wire);
+                self.perform(rt, wire)
+            }
+            6 => self.late(rt, wire),
+            7 => to_another(wire),
+            8 => that_does_not_fit(wire),
+            9 => {
+                thread::yield_now();
+                self.perform(rt, wire)
+            }
+            _ => self.perform(rt, wire),
+        }
+    }
+
+    fn drawn_news(&self, told: Told) -> Option<News> {
+        match self.draw() % 8 {
+            0 | 1 => None,
+            2 | 3 => told.before,
+            _ => told.last,
+        }
+    }
+
     // The reply to an earlier wire; the one to this wire comes later, if at all.
     fn late<R: Wait>(&self, rt: &R, wire: &Wire) -> Option<Reply> {
         let reply = self.perform(rt, wire);
@@ -169,40 +188,24 @@ const fn that_does_not_fit(wire: &Wire) -> Option<Reply> {
 
 impl Link for Storm {
     fn carry<R: Wait>(&self, rt: &R, _worker: usize, wire: &Wire) -> Option<Reply> {
-        let drawn = self.draw();
-        self.befall(rt, drawn >> 32, wire.redo);
-        match drawn % 16 {
-            0 | 1 => None,
-            2 | 3 => {
-                let _lost = self.perform(rt, wire);
-                None
-            }
-            4 | 5 => {
-                let _first = self.perform(rt, wire);
-                self.perform(rt, wire)
-            }
-            6 => self.late(rt, wire),
-            7 => to_another(wire),
-            8 => that_does_not_fit(wire),
-            9 => {
-                thread::yield_now();
-                self.perform(rt, wire)
-            }
-            _ => self.perform(rt, wire),
+        match self.mood {
+            Mood::Calm => self.perform(rt, wire),
+            Mood::Regular => self.carry_regularly(rt, wire),
+            Mood::Storm => self.carry_in_storm(rt, wire),
         }
     }
 
-    // News are lost, come late, and come again and again.
+    // In a storm news are lost, come late, and come again and again.
     fn news<R: Wait>(&self, rt: &R, _worker: usize, _dc: u16) -> Option<News> {
         let told = *self.told.lock(rt);
-        match self.draw() % 8 {
-            0 | 1 => None,
-            2 | 3 => told.before,
-            _ => told.last,
+        match self.mood {
+            Mood::Calm => None,
+            Mood::Regular => told.last,
+            Mood::Storm => self.drawn_news(told),
         }
     }
 
     fn is_prompt(&self) -> bool {
-        self.is_prompt
+        self.is_prompt && matches!(self.mood, Mood::Storm)
     }
 }

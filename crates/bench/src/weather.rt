@@ -3,12 +3,11 @@
 use crate::audits::audit_line;
 use crate::calls::{RECORDS, called_first, moves, puts, store};
 use crate::cuts::run_parts;
-use crate::storm::{Calm, Regular, Storm};
+use crate::storm::{Mood, Storm};
 use data_component::dc::Dc;
 use journals::NoJournal;
 use std::alloc::Global;
 use std::sync::Wait;
-use std::sync::atomic::AtomicU64;
 use std::thread::Threads;
 use tc_core::state::{Call, Redo, TcState};
 use worker_pool::{Answer, OpenGate, Report, run};
@@ -168,21 +167,16 @@ fn run_all<R: Threads + Wait + Sync>(
     storm: &mut Storm,
     weather: Weather,
 ) -> Option<Behind> {
-    let (_, ran) = match weather {
-        Weather::Cut => return run_parts(rt, alloc, state, calls, workers, storm),
-        Weather::Regular => {
-            let carried = AtomicU64::new(0);
-            let link = Regular { storm, carried };
-            run(
-                rt, alloc, state, calls, workers, TRIES, &link, &OpenGate, NoJournal,
-            )
-        }
-        Weather::Storm | Weather::Traced => {
-            run(
-                rt, alloc, state, calls, workers, TRIES, storm, &OpenGate, NoJournal,
-            )
-        }
+    storm.mood = match weather {
+        Weather::Regular => Mood::Regular,
+        Weather::Storm | Weather::Traced | Weather::Cut => Mood::Storm,
     };
+    if weather == Weather::Cut {
+        return run_parts(rt, alloc, state, calls, workers, storm);
+    }
+    let (_, ran) = run(
+        rt, alloc, state, calls, workers, TRIES, storm, &OpenGate, NoJournal,
+    );
     Some(left_by(ran.ok()?, Ended::default(), String::new(alloc)))
 }
 
@@ -246,7 +240,7 @@ fn put_and_moved<R: Threads + Wait + Sync>(
     storm: &mut Storm,
 ) -> Option<Behind> {
     let puts = puts(alloc, RECORDS)?;
-    let (_, state) = called_first(rt, alloc, puts, 1, &Calm { storm })?;
+    let (_, state) = called_first(rt, alloc, puts, 1, storm)?;
     let Some(moves) = moves(alloc, calls) else {
         drop(state);
         return None;
