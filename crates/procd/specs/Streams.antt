@@ -26,10 +26,11 @@ abbrev pub LogFails : Option (List ℕ) → Stream → Type 0
 LogFails None err = ⊥
 LogFails (Some path) err = TellsUnread path err ⊎ TellsUnwritten path err
 
--- that of a partition's log can't
+-- that of a partition's log can't, or LOG is standard output
 abbrev pub PartFails : Option (List ℕ) → Stream → Type 0
 PartFails None err = ⊥
-PartFails (Some log) err = (number : ℕ) × LogFails (Some (log ++ (codes "." ++ decimal number))) err
+PartFails (Some log) err =
+    ((number : ℕ) × LogFails (Some (log ++ (codes "." ++ decimal number))) err) ⊎ ((log ≡ codes "-") × TellsUnwritten log err)
 
 -- a further file can't be read or written
 abbrev pub FurtherFails : Wish → Stream → Type 0
