@@ -90,13 +90,14 @@ compile() {
     took "what is compiled"
 }
 
-# What is tried of the programs, a command a line; the longest stand first. `engines` leaves out what has no server.
+# What is tried of the programs, a command a line; the longest stand first. An engine that isn't
+# installed is left out; so are take-overs, which take minutes and, on a busy machine, come from slowness as well.
 tries() {
     if [ -z "$missing" ]; then
         if [ -n "$unproved" ]; then
             echo "make -s -C out-unproved/c_interface check RATTLE_ARCHIVE=../lib/libmazzulpe.a"
         else
-            echo "make -s -C c_interface engines FAULTS=4 SILENCE=1000 PROCD=$(tools/built.py procd)"
+            echo "make -s -C c_interface engines_sqlite engines_postgres engines_etcd"
         fi
         echo "tools/try_dist.py $unproved"
     fi

@@ -3,8 +3,9 @@
 #include "etcd_storage.h"
 #include <stdio.h>
 #include <stdlib.h>
+#include <unistd.h>
 
-enum { TOGETHER = 100 }; /* accounts that are made in one transaction */
+enum { TOGETHER = 100, TRIES = 10, REST = 100000 }; /* accounts that are made in one transaction; microseconds */
 
 /* An account is the key a/NNNNN, with its balance as a number in text. */
 static const char *key_of(char to[ETCD_TEXT], uint64_t account) {
@@ -32,6 +33,17 @@ static void disconnect(void *context) {
     free(context);
 }
 
+/* Again if nobody answers, as while a leader is elected. What was done all the same fails its comparison then. */
+static int is_done(etcd_connection *c, const char *body) {
+    etcd_status status = etcd_post(c, "kv/txn", body);
+    for (int i = 1; i < TRIES && status == ETCD_LOST; i++) {
+        usleep(REST);
+        status = etcd_post(c, "kv/txn", body);
+    }
+    if (status == ETCD_REFUSED) fprintf(stderr, "etcd: %.200s\n", c->in);
+    return status == ETCD_DONE;
+}
+
 static int begin(const char *folder, int synced) {
     static char body[TOGETHER * 100];
     char key[ETCD_TEXT], balance[ETCD_TEXT];
@@ -43,7 +55,7 @@ static int begin(const char *folder, int synced) {
             length += sprintf(body + length, "%s{\"request_put\":{\"key\":\"%s\",\"value\":\"%s\"}}", i ? "," : "", key_of(key, a + i),
                               balance_of(balance, 1000000));
         sprintf(body + length, "]}");
-        ok = etcd_post(c, "kv/txn", body) == ETCD_DONE;
+        ok = is_done(c, body);
     }
     if (c) disconnect(c);
     return ok;
@@ -69,14 +81,14 @@ static int transfer(void *context, uint64_t source, uint64_t target) {
     for (;;) {
         snprintf(body, sizeof body, "{\"success\":[{\"request_range\":{\"key\":\"%s\"}},{\"request_range\":{\"key\":\"%s\"}}]}",
                  from.key, to.key);
-        if (etcd_post(c, "kv/txn", body) != ETCD_DONE) return 0;
+        if (!is_done(c, body)) return 0;
         read_account(etcd_response(etcd_whole(c), 0), -1, &from);
         read_account(etcd_response(etcd_whole(c), 1), 1, &to);
         snprintf(body, sizeof body, "{\"compare\":[{\"key\":\"%s\",\"target\":\"MOD\",\"result\":\"EQUAL\",\"mod_revision\":\"%llu\"},"
                  "{\"key\":\"%s\",\"target\":\"MOD\",\"result\":\"EQUAL\",\"mod_revision\":\"%llu\"}],\"success\":["
                  "{\"request_put\":{\"key\":\"%s\",\"value\":\"%s\"}},{\"request_put\":{\"key\":\"%s\",\"value\":\"%s\"}}]}", from.key,
                  (unsigned long long)from.revision, to.key, (unsigned long long)to.revision, from.key, from.balance, to.key, to.balance);
-        if (etcd_post(c, "kv/txn", body) != ETCD_DONE) return 0;
+        if (!is_done(c, body)) return 0;
         if (etcd_field(etcd_whole(c), "succeeded")) return 1;
     }
 }

@@ -8,7 +8,7 @@
 enum { FIRST_PORT = 5440, ANSWERS_WITHIN = 60000, AT_REST = 300 };
 
 static struct { char folder[320], output[340]; pid_t pid; } members[HOMES];
-static char at_folder[320], words[800];
+static char at_folder[320], words[1100];
 static int primary, is_cut_off, is_small;
 static const struct passwd *owner; /* who runs the servers: PostgreSQL refuses root */
 
