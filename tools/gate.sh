@@ -131,9 +131,7 @@ END
     for example in examples/*/; do
         echo "tools/example.sh $example"
     done
-    for how in "" --control; do
-        echo "examples/once/client.py --procd \$(tools/built.py procd) $how"
-    done
+    echo "examples/once/client.py --procd \$(tools/built.py procd) --payments 5000 --kills 10"
 }
 
 mkdir -p out-gate
