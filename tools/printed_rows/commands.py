@@ -47,6 +47,5 @@ def rows(_program):
     yield from (Row(words, given, b"", 2, told) for words, told in WRONG)
     yield from (Row(words, given, b"", 3, f"cannot read {why}\n".encode()) for words, given, why in UNREAD)
     yield Row(["run", "--log", "-", "-"], b"dc 1 1\n", b"", 3, b"cannot write -: it names no file here; ./- does\n")
-    yield Row(["run", "--partitions", "--log", "-", "-"], b"dc 1 1\n", b"", 3, b"cannot write -: it names no file here; ./- does\n")
     yield Row(["exec", "-"], MARK + given, b"refused H1 NotHex at 0\n", 1)
     yield Row(["exec", "-"], given + b" " * ((16 << 20) - len(given)), b"answer 0\nexecuted 2\n", 0)

@@ -79,8 +79,7 @@ write_fails (Dis raw) path err is told = absurd is
 write_fails Verify path err is told = absurd is
 write_fails (World log audit script) path err is told = absurd is
 write_fails (Run workers tries stats audit strict results tell metrics trace log checkpoint over script) path err is told = inl (log_fails log path err is (inr told))
-write_fails (Partitioned workers tries audit strict log script) path err is told =
-    inl (subst (λ (o : Option (List ℕ)). PartFails o err) (sym is.0) (inr (is.1, told)))
+write_fails (Partitioned workers tries audit strict log script) path err is told = absurd is
 write_fails (Log (Events part)) path err is told = absurd is
 write_fails (Log EventsAndRows) path err is told = absurd is
 write_fails (Log (Follow part)) path err is told = absurd is
@@ -91,12 +90,12 @@ write_fails (Log (Picture file part)) path err is told = subst (λ (s : List ℕ
 pub part_unread : (log path : List ℕ) (number : ℕ) (err : Stream) (status : ℕ) → path ≡ log ++ (codes "." ++ decimal number)
     → IsToldOrNoMemory (TellsUnread path err) err status → IsToldOrNoMemory (PartFails (Some log) err) err status
 part_unread log path number err status is told =
-    elim told [ inl t ↦ inl (t.0, inl (number, inl (subst (λ (p : List ℕ). TellsUnread p err) is t.1))) | inr memory ↦ inr memory ]
+    elim told [ inl t ↦ inl (t.0, (number, inl (subst (λ (p : List ℕ). TellsUnread p err) is t.1))) | inr memory ↦ inr memory ]
 
 pub part_unwritten : (log path : List ℕ) (number : ℕ) (err : Stream) (status : ℕ) → path ≡ log ++ (codes "." ++ decimal number)
     → IsToldOrNoMemory (TellsUnwritten path err) err status → IsToldOrNoMemory (PartFails (Some log) err) err status
 part_unwritten log path number err status is told =
-    elim told [ inl t ↦ inl (t.0, inl (number, inr (subst (λ (p : List ℕ). TellsUnwritten p err) is t.1))) | inr memory ↦ inr memory ]
+    elim told [ inl t ↦ inl (t.0, (number, inr (subst (λ (p : List ℕ). TellsUnwritten p err) is t.1))) | inr memory ↦ inr memory ]
 
 keep_fails : (wish : Wish) (log : List ℕ) (err : Stream) → Keeps wish log → PartFails (Some log) err → FurtherFails wish err
 keep_fails (Exec raw numbers) log err is told = absurd is

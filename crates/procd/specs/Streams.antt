@@ -26,11 +26,10 @@ abbrev pub LogFails : Option (List ℕ) → Stream → Type 0
 LogFails None err = ⊥
 LogFails (Some path) err = TellsUnread path err ⊎ TellsUnwritten path err
 
--- that of a partition's log can't, or LOG is standard output
+-- that of a partition's log can't
 abbrev pub PartFails : Option (List ℕ) → Stream → Type 0
 PartFails None err = ⊥
-PartFails (Some log) err =
-    ((number : ℕ) × LogFails (Some (log ++ (codes "." ++ decimal number))) err) ⊎ ((log ≡ codes "-") × TellsUnwritten log err)
+PartFails (Some log) err = (number : ℕ) × LogFails (Some (log ++ (codes "." ++ decimal number))) err
 
 -- a further file can't be read or written
 abbrev pub FurtherFails : Wish → Stream → Type 0

@@ -212,18 +212,6 @@ fn apart_fault<'a>(log: Option<&'a str>, fault: Fault) -> ReportFault<'a>
     }
 }
 
-// Standard output is no name for the files of partitions.
-fn named<'a>(log: Option<&'a str>) -> Result<(), ReportFault<'a>>
-    ensures further { (script : Option (List ℕ)) → IfErr result (IsApartFault (option_map (λ path. path.now) log.entry) script) }
-    ensures text { IfErr result IsOfText }
-    ensures named { IfOk result (λ _. ¬ (option_map (λ path. path.now) log.entry ≡ Some (codes "-"))) }
-{
-    match log {
-        Some(path) if path == "-" => Err(ReportFault::Unwritten(path, Some(Reason::Dash))),
-        _ => Ok(()),
-    }
-}
-
 // The report of a run by partitions of either.
 fn partitioned_of<'a, R: Files<File = File> + Clock + Threads + Wait + Sync>(
     rt: &R,
@@ -238,9 +226,7 @@ fn partitioned_of<'a, R: Files<File = File> + Clock + Threads + Wait + Sync>(
         (option_map (λ path. path.now) script.entry) file.now r.status (string_bytes r.lines)) }
     ensures not_text { IfErr result (IsNoTextOf (is_none script.entry) file.now) }
     ensures further { IfErr result (IsApartFault (option_map (λ path. path.now) log.entry) (option_map (λ path. path.now) script.entry)) }
-    ensures named { IfOk result (λ _. ¬ (option_map (λ path. path.now) log.entry ≡ Some (codes "-"))) }
 {
-    named(log)?;
     let beside = read_beside(rt, alloc, script)?;
     let source = source_of(file, script, beside.as_slice())?;
     match running_partitioned(rt, alloc, source, log, manner, listeners) {

@@ -1,6 +1,6 @@
 -- Why there is no report: no text was read, or a further file isn't read or written, which keeps a run's log, has procedures beside FILE or
 -- is to have a picture.
-use Rattle.std.specs.Prelude.{◌≡◌, ◌⊎◌, true, Bool, not, List, ℕ, Option, Some, None, option_map, codes}
+use Rattle.std.specs.Prelude.{◌≡◌, ◌⊎◌, true, Bool, not, List, ℕ, Option, Some, None, option_map}
 use Rattle.program_files.specs.Texts.{IsTextFault}
 use Rattle.command_line.specs.Task.{Wish, Verify, World, Run, Partitioned, Log, Audit, Picture, reads_text}
 use Rattle.object_file.specs.Elf.{is_elf}
@@ -16,10 +16,9 @@ Reads (Partitioned workers tries audit strict log script) path = script ≡ Some
 Reads (Log (Audit source script)) path = (source ≡ path) ⊎ (script ≡ Some path)
 Reads other path = ⊥
 
--- it writes it, or it would keep the logs of partitions behind the name of standard output
+-- it writes it
 abbrev pub Writes : Wish → List ℕ → Type 0
 Writes (Run workers tries stats audit strict results tell metrics trace log checkpoint over script) path = log ≡ Some path
-Writes (Partitioned workers tries audit strict log script) path = (log ≡ Some path) × (path ≡ codes "-")
 Writes (Log (Picture file part)) path = file ≡ path
 Writes other path = ⊥
 
@@ -71,7 +70,7 @@ IsRunFault log script Memory = Unit {0}
 -- or that of a partition is
 abbrev pub IsApartFault : (log script : Option (List ℕ)) → ReportFault → Type 0
 IsApartFault log script (Unread path reason) = script ≡ Some path.now
-IsApartFault log script (Unwritten path reason) = (log ≡ Some path.now) × (path.now ≡ codes "-")
+IsApartFault log script (Unwritten path reason) = ⊥
 IsApartFault log script (Partition path number stop) = log ≡ Some path.now
 IsApartFault log script (NotText fault) = Unit {0}
 IsApartFault log script Memory = Unit {0}
