@@ -16,7 +16,6 @@ import re
 import subprocess
 import sys
 import tempfile
-import threading
 
 HERE = pathlib.Path(__file__).resolve().parent
 ACCOUNTS, AMOUNT = 10, 1_000_000
@@ -36,15 +35,17 @@ def words(options, folder, calls, *more):
     return [options.procd, "run", "--log", folder / "log", *more, HERE / "once.o", script_of(folder, calls)]
 
 
-def answered(options, folder, calls, seconds):
-    """Which of these calls are told, by their places, until the program is killed or at its end; and whether it was killed."""
+def answered(options, folder, calls, last):
+    """Which of these calls are told, by their places, until the program is killed, once it has told so many, or at its end; and
+    whether it was killed."""
     process = subprocess.Popen(words(options, folder, calls, "--tell"), stdout=subprocess.DEVNULL, stderr=subprocess.PIPE, text=True)
-    killer = threading.Timer(seconds, process.kill)
-    killer.start()
-    told = {int(said[1]): said[2] for said in map(TOLD.fullmatch, process.stderr) if said}
-    killed = process.wait() == -9
-    killer.cancel()
-    return told, killed
+    told = {}
+    for line in process.stderr:
+        if said := TOLD.fullmatch(line):
+            told[int(said[1])] = said[2]
+        if len(told) == last:
+            process.kill()
+    return told, process.wait() == -9
 
 
 def paid(options, folder, payments, draw):
@@ -54,8 +55,8 @@ def paid(options, folder, payments, draw):
         numbers = list(waiting)
         own = {place: number + (calls if options.control else 0) for place, number in enumerate(numbers)}
         lines = [f"call pay {own[place]} {source} {target} {amount}" for place, (source, target, amount) in enumerate(waiting.values())]
-        seconds = draw.uniform(0, 0.4) if kills < options.kills else 600
-        told, killed = answered(options, folder, lines, seconds)
+        last = draw.randrange(1, len(lines) // 2 + 2) if kills < options.kills else None
+        told, killed = answered(options, folder, lines, last)
         kills, calls = kills + killed, calls + len(lines)
         for place, said in told.items():
             if said != "committed":
