@@ -91,13 +91,13 @@ compile() {
 }
 
 # What is tried of the programs, a command a line; the longest stand first. An engine that isn't
-# installed is left out; so are take-overs, which take minutes and, on a busy machine, come from slowness as well.
+# installed is left out; so are etcd and take-overs, which take minutes: on a busy machine slowness makes take-overs as well.
 tries() {
     if [ -z "$missing" ]; then
         if [ -n "$unproved" ]; then
             echo "make -s -C out-unproved/c_interface check RATTLE_ARCHIVE=../lib/libmazzulpe.a"
         else
-            echo "make -s -C c_interface engines_sqlite engines_postgres engines_etcd"
+            echo "make -s -C c_interface engines_sqlite engines_postgres"
         fi
         echo "tools/try_dist.py $unproved"
     fi
